@@ -1,0 +1,1 @@
+//! Words and lemmas on lists that several crates share; no code.
