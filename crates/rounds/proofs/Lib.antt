@@ -1,0 +1,4 @@
+pub mod Lent
+pub mod RoundsLaws
+pub mod RunsLaws
+pub mod PlacesLaws

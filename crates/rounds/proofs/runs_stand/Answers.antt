@@ -1,0 +1,5 @@
+use Rattle.rounds.proofs.PlacesLaws.{laws}
+use Rattle.rounds.proofs.runs_stand.Needs as need
+
+pub returns : need.returns
+returns c = laws
