@@ -82,8 +82,9 @@ closes n zero xs r v l s c = (xs ++ (v ∷ []), [], append-nil (xs ++ (v ∷ [])
   where
     now : Round n (xs ++ (v ∷ []))
     now = record {
-        covers = subst (λ z. Covers n (z ++ (v ∷ []))) (sym (s .0)) c;
-        tight = λ front x back q h. let t = front-of-push front x back xs v q in s .1 (subst (Covers n) (t .1 ∙ s .0) (covers-left n front (t .0) h)) }
+      covers = subst (λ z. Covers n (z ++ (v ∷ []))) (sym (s .0)) c;
+      tight = λ front x back q h. let t = front-of-push front x back xs v q in s .1 (subst (Covers n) (t .1 ∙ s .0) (covers-left n front (t .0) h));
+    }
 closes n (suc k) xs r v l s c = push-later n k (suc k) xs r [] v s (closes n k (s .1) r v l (s .4) c)
 
 pub extends : Extends

@@ -28,20 +28,20 @@ abbrev pub Settles : {S : Type 0} → (ℕ → S → S) → ℕ → ℕ → (S �
 Settles {S} step n b Q = From step n (λ _. Unit {0}) b Q
 
 -- turns run one after the other
-abbrev pub RunAppend : Type 1
-RunAppend = (S : Type 0) (step : ℕ → S → S) (xs ys : List ℕ) (s : S) → run step (xs ++ ys) s ≡ run step ys (run step xs s)
+abbrev pub RunAppend : (S : Type 0) → (ℕ → S → S) → Type 0
+RunAppend S step = (xs ys : List ℕ) (s : S) → run step (xs ++ ys) s ≡ run step ys (run step xs s)
 
 -- what every turn keeps, every run keeps
-abbrev pub KeptRun : Type 1
-KeptRun = (S : Type 0) (step : ℕ → S → S) (n : ℕ) (P : S → Type 0) → Kept step n P → (ts : List ℕ) (s : S) → Below n ts → P s → P (run step ts s)
+abbrev pub KeptRun : (S : Type 0) → (ℕ → S → S) → (S → Type 0) → Type 0
+KeptRun S step P = (n : ℕ) → Kept step n P → (ts : List ℕ) (s : S) → Below n ts → P s → P (run step ts s)
 
 -- b rounds to Q, and then c rounds to R
-abbrev pub Compose : Type 1
-Compose = (S : Type 0) (step : ℕ → S → S) (n b c : ℕ) (P Q R : S → Type 0) → 0 < n → From step n P b Q → From step n Q c R → From step n P (b + c) R
+abbrev pub Compose : (S : Type 0) → (ℕ → S → S) → (P Q R : S → Type 0) → Type 0
+Compose S step P Q R = (n b c : ℕ) → 0 < n → From step n P b Q → From step n Q c R → From step n P (b + c) R
 
 -- what v's turn makes good and no turn spoils, holds after a round
-abbrev pub OneRound : Type 1
-OneRound = (S : Type 0) (step : ℕ → S → S) (n : ℕ) (P G : S → Type 0) (v : ℕ) → v < n → Kept step n P → ((s : S) → P s → G (step v s)) → Kept step n (λ s. P s × G s) → From step n P 1 G
+abbrev pub OneRound : (S : Type 0) → (ℕ → S → S) → (P G : S → Type 0) → Type 0
+OneRound S step P G = (n v : ℕ) → v < n → Kept step n P → ((s : S) → P s → G (step v s)) → Kept step n (λ s. P s × G s) → From step n P 1 G
 
 -- waves: in each round from P k on, every node's turn makes that node good, it stays so, and once all nodes are good P (k + 1) holds
 pub record Waves (S : Type 0) (step : ℕ → S → S) (n : ℕ) (P : ℕ → S → Type 0) (Good : ℕ → ℕ → S → Type 0) : Type 0 where
@@ -51,8 +51,8 @@ pub record Waves (S : Type 0) (step : ℕ → S → S) (n : ℕ) (P : ℕ → S 
   pub joins : (k : ℕ) (s : S) → P k s → ((v : ℕ) → v < n → Good k v s) → P (suc k) s
 
 -- b waves take b rounds
-abbrev pub Induction : Type 1
-Induction = (S : Type 0) (step : ℕ → S → S) (n : ℕ) (P : ℕ → S → Type 0) (Good : ℕ → ℕ → S → Type 0) → 0 < n → Waves S step n P Good → (b : ℕ) → From step n (P 0) b (P b)
+abbrev pub Induction : (S : Type 0) → (ℕ → S → S) → (ℕ → S → Type 0) → (ℕ → ℕ → S → Type 0) → Type 0
+Induction S step P Good = (n : ℕ) → 0 < n → Waves S step n P Good → (b : ℕ) → From step n (P 0) b (P b)
 
 -- every node of a place below k is good
 abbrev pub GoodBelow : {S : Type 0} → ℕ → (ℕ → ℕ) → (ℕ → S → Type 0) → ℕ → S → Type 0
@@ -68,27 +68,27 @@ pub record Placed (S : Type 0) (step : ℕ → S → S) (n h : ℕ) (Ok : S → 
   pub apart : (v u : ℕ) (s : S) → v < n → u < n → (u ≡ v → ⊥) → place v ≤ place u → Ok s → Good v s → Good v (step u s)
 
 -- a round for each place makes every node good, and no turn changes the state any more
-abbrev pub ByPlaces : Type 1
-ByPlaces = (S : Type 0) (step : ℕ → S → S) (n h : ℕ) (Ok : S → Type 0) (place : ℕ → ℕ) (Good : ℕ → S → Type 0) → 0 < n → Placed S step n h Ok place Good → From step n Ok (suc h) (λ s. Ok s × ((v : ℕ) → v < n → Good v s) × ((v : ℕ) → v < n → step v s ≡ s))
+abbrev pub ByPlaces : (S : Type 0) → (ℕ → S → S) → (S → Type 0) → (ℕ → S → Type 0) → Type 0
+ByPlaces S step Ok Good = (n h : ℕ) (place : ℕ → ℕ) → 0 < n → Placed S step n h Ok place Good → From step n Ok (suc h) (λ s. Ok s × ((v : ℕ) → v < n → Good v s) × ((v : ℕ) → v < n → step v s ≡ s))
 
 -- the same where a node is good if its turn changes nothing: h + 1 rounds reach a common fixpoint
-abbrev pub Fixpoint : Type 1
-Fixpoint = (S : Type 0) (step : ℕ → S → S) (n h : ℕ) (Ok : S → Type 0) (place : ℕ → ℕ) → 0 < n → ((v : ℕ) → v < n → place v ≤ h) → Kept step n Ok
+abbrev pub Fixpoint : (S : Type 0) → (ℕ → S → S) → (S → Type 0) → Type 0
+Fixpoint S step Ok = (n h : ℕ) (place : ℕ → ℕ) → 0 < n → ((v : ℕ) → v < n → place v ≤ h) → Kept step n Ok
     → ((v : ℕ) (s : S) → v < n → Ok s → step v (step v s) ≡ step v s)
     → ((v u : ℕ) (s : S) → v < n → u < n → (u ≡ v → ⊥) → place v ≤ place u → Ok s → step v s ≡ s → step v (step u s) ≡ step u s)
     → From step n Ok (suc h) (λ s. Ok s × ((v : ℕ) → v < n → step v s ≡ s))
 
 -- a state that no turn changes stays as it is
-abbrev pub Rests : Type 1
-Rests = (S : Type 0) (step : ℕ → S → S) (n : ℕ) (s : S) → ((v : ℕ) → v < n → step v s ≡ s) → (ts : List ℕ) → Below n ts → run step ts s ≡ s
+abbrev pub Rests : (S : Type 0) → (ℕ → S → S) → Type 0
+Rests S step = (n : ℕ) (s : S) → ((v : ℕ) → v < n → step v s ≡ s) → (ts : List ℕ) → Below n ts → run step ts s ≡ s
 
--- the principles
-pub record Laws : Type 1 where
-  pub append : RunAppend
-  pub keeps : KeptRun
-  pub compose : Compose
-  pub one : OneRound
-  pub induction : Induction
-  pub places : ByPlaces
-  pub fixpoint : Fixpoint
-  pub rests : Rests
+-- the principles, over any states, any step, any predicates of states and of nodes in them
+pub record Laws (S : Type 0) (step : ℕ → S → S) (holds : ℕ → S → Type 0) (good : ℕ → ℕ → S → Type 0) : Type 0 where
+  pub append : RunAppend S step
+  pub keeps : (i : ℕ) → KeptRun S step (holds i)
+  pub compose : (i j k : ℕ) → Compose S step (holds i) (holds j) (holds k)
+  pub one : (i j : ℕ) → OneRound S step (holds i) (holds j)
+  pub induction : Induction S step holds good
+  pub places : (i j : ℕ) → ByPlaces S step (holds i) (good j)
+  pub fixpoint : (i : ℕ) → Fixpoint S step (holds i)
+  pub rests : Rests S step

@@ -1,7 +1,19 @@
 //! Rounds of a list of turns, runs that settle, and forests of parents; no code.
 //! Each function carries one family of laws.
+ghost use Prim.Native.Nat.{ℕ};
 ghost use Rattle.rounds.specs.Rounds as R;
 ghost use Rattle.rounds.specs.Runs as U;
+
+/// Any states, any turns and any predicates, so that the principles of runs speak of all.
+pub trait Turns: Sized {
+    ghost State: { Type 0 };
+
+    ghost step: { ℕ → State → State };
+
+    ghost holds: { ℕ → State → Type 0 };
+
+    ghost good: { ℕ → ℕ → State → Type 0 };
+}
 
 /// Carries the laws of rounds.
 pub fn rounds_stand() -> u8
@@ -11,8 +23,8 @@ pub fn rounds_stand() -> u8
 }
 
 /// Carries the principles of runs that settle.
-pub fn runs_stand() -> u8
-    ensures { λ _. ⌜ U.Laws ⌝ }
+pub fn runs_stand<X: Turns>() -> u8
+    ensures { λ _. ⌜ U.Laws (X·Turns .State) (X·Turns .step) (X·Turns .holds) (X·Turns .good) ⌝ }
 {
     0
 }

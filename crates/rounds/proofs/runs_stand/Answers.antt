@@ -2,4 +2,4 @@ use Rattle.rounds.proofs.PlacesLaws.{laws}
 use Rattle.rounds.proofs.runs_stand.Needs as need
 
 pub returns : need.returns
-returns c = laws
+returns g c = laws _ _ _ _
