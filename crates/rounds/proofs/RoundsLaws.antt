@@ -5,25 +5,20 @@ use Prim.Native.Nat.{ℕ, zero, suc, _+_, _*_, _≤_, _<_}
 use native.Mathlib.Nat.{mul-zero, mul-suc, mul-le-mul-left, mul-le-mul-right}
 use native.Mathlib.Omega.{arith}
 use lib.ListN.{length, length-append}
-use Rattle.std.proofs.shelf.Tests.{cases-eq}
 use Rattle.lists.specs.Members.{Among}
+use Rattle.lists.proofs.Decisions.{Decided, all-below?, among-number?}
+use Rattle.lists.proofs.Elements.{among-append-left, among-append-right}
+use Rattle.lists.proofs.Pigeonhole.{covers-length}
 use Rattle.rounds.specs.Rounds.{Covers, Round, Splits, Completes, Blocks, Unique, Exists, Closes, Extends, Grows, Monotone, Adds, BlocksComplete, TurnsOfRounds, RoundsBelowTurns, Laws}
-use Rattle.rounds.proofs.Lent.{Decided, among-left, among-right, among?, covers-length}
 
 pub covers? : (n : ℕ) (xs : List ℕ) → Decided (Covers n xs)
-covers? zero xs = inl (λ v h. absurd (omega arith))
-covers? (suc n) xs = go (among? n xs) (covers? n xs)
-  where
-    go : Decided (Among n xs) → Decided (Covers n xs) → Decided (Covers (suc n) xs)
-    go (inl e) (inl h) = inl (λ v l. elim (cases-eq v n) [ inl q ↦ subst (λ w. Among w xs) (sym q) e | inr q ↦ h v (omega arith) ])
-    go (inl e) (inr h) = inr (λ t. h (λ v l. t v (omega arith)))
-    go (inr e) d = inr (λ t. e (t n (omega arith)))
+covers? n xs = all-below? (λ v. Among v xs) (λ v. among-number? v xs) n
 
 pub covers-left : (n : ℕ) (xs ys : List ℕ) → Covers n xs → Covers n (xs ++ ys)
-covers-left n xs ys h v l = among-left v xs ys (h v l)
+covers-left n xs ys h v l = among-append-left v xs ys (h v l)
 
 pub covers-right : (n : ℕ) (xs ys : List ℕ) → Covers n ys → Covers n (xs ++ ys)
-covers-right n xs ys h v l = among-right v xs ys (h v l)
+covers-right n xs ys h v l = among-append-right v xs ys (h v l)
 
 pub nil-covers-none : (n : ℕ) → 0 < n → Covers n [] → ⊥
 nil-covers-none n l h = h 0 l

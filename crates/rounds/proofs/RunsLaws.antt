@@ -4,16 +4,16 @@ use mathlib.Core.List.{List, [], _∷_, _++_}
 use Prim.Native.Nat.{ℕ, zero, suc, _+_, _≤_, _<_}
 use native.Mathlib.Omega.{arith}
 use Rattle.lists.specs.Members.{Among}
+use Rattle.lists.proofs.Elements.{among-append-left, among-append-right}
 use Rattle.rounds.specs.Rounds.{Completes}
 use Rattle.rounds.specs.Runs.{run, Below, Kept, From, RunAppend, KeptRun, Compose, OneRound, Waves, Induction, Rests}
-use Rattle.rounds.proofs.Lent.{among-left, among-right}
 use Rattle.rounds.proofs.RoundsLaws.{adds, exactly, completes-covers, completes-fewer}
 
 pub below-left : (n : ℕ) (xs ys : List ℕ) → Below n (xs ++ ys) → Below n xs
-below-left n xs ys h v m = h v (among-left v xs ys m)
+below-left n xs ys h v m = h v (among-append-left v xs ys m)
 
 pub below-right : (n : ℕ) (xs ys : List ℕ) → Below n (xs ++ ys) → Below n ys
-below-right n xs ys h v m = h v (among-right v xs ys m)
+below-right n xs ys h v m = h v (among-append-right v xs ys m)
 
 module _ (S : Type 0) (step : ℕ → S → S) where
   pub run-append : RunAppend S step

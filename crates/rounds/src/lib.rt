@@ -1,6 +1,7 @@
 //! Rounds of a list of turns, runs that settle, and forests of parents; no code.
 //! Each function carries one family of laws.
 ghost use Prim.Native.Nat.{ℕ};
+ghost use Rattle.rounds.specs.Forest as F;
 ghost use Rattle.rounds.specs.Rounds as R;
 ghost use Rattle.rounds.specs.Runs as U;
 
@@ -25,6 +26,13 @@ pub fn rounds_stand() -> u8
 /// Carries the principles of runs that settle.
 pub fn runs_stand<X: Turns>() -> u8
     ensures { λ _. ⌜ U.Laws (X·Turns .State) (X·Turns .step) (X·Turns .holds) (X·Turns .good) ⌝ }
+{
+    0
+}
+
+/// Carries the laws of forests.
+pub fn forests_stand() -> u8
+    ensures { λ _. ⌜ F.Laws ⌝ }
 {
     0
 }
