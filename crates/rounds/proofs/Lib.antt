@@ -5,3 +5,6 @@ pub mod Sums
 pub mod Counting
 pub mod ChainLaws
 pub mod SizeLaws
+pub mod Joins
+pub mod PreorderLaws
+pub mod RankLaws

@@ -1,3 +1,4 @@
 pub mod Rounds
 pub mod Runs
 pub mod Forest
+pub mod Preorder

@@ -2,6 +2,7 @@
 //! Each function carries one family of laws.
 ghost use Prim.Native.Nat.{ℕ};
 ghost use Rattle.rounds.specs.Forest as F;
+ghost use Rattle.rounds.specs.Preorder as P;
 ghost use Rattle.rounds.specs.Rounds as R;
 ghost use Rattle.rounds.specs.Runs as U;
 
@@ -33,6 +34,13 @@ pub fn runs_stand<X: Turns>() -> u8
 /// Carries the laws of forests.
 pub fn forests_stand() -> u8
     ensures { λ _. ⌜ F.Laws ⌝ }
+{
+    0
+}
+
+/// Carries the laws of preorder listings and ranks.
+pub fn preorders_stand() -> u8
+    ensures { λ _. ⌜ P.Laws ⌝ }
 {
     0
 }

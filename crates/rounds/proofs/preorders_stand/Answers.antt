@@ -1,0 +1,5 @@
+use Rattle.rounds.proofs.RankLaws.{laws}
+use Rattle.rounds.proofs.preorders_stand.Needs as need
+
+pub returns : need.returns
+returns c = laws
