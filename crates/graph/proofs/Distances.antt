@@ -79,6 +79,10 @@ module _ (m : Model) where
     pub walk-distance-below : (k v : ℕ) → Walk m k v → distance m v < m .nodes
     walk-distance-below k v w = shortest-below v (distance m v) (walk-distance k v w)
 
+    -- where there is a walk, there is one of fewer links than there are nodes
+    pub walk-short : (k v : ℕ) → Walk m k v → (j : ℕ) × (j < m .nodes) × Walk m j v
+    walk-short k v w = (distance m v, walk-distance-below k v w, walk-distance k v w .way)
+
     pub within-nodes : (k v : ℕ) → within m k v ≡ true → within m (m .nodes - 1) v ≡ true
     within-nodes k v e =
         let w = within-walk m k v e in

@@ -5,4 +5,5 @@ pub mod Growth
 pub mod Walks
 pub mod Distances
 pub mod Heights
+pub mod Deciding
 pub mod SiteLaws

@@ -1,6 +1,6 @@
 -- The ports that a list of links gives a node.
 use mathlib.Core.Path.{_≡_, refl, sym, ap, subst, _∙_}
-use mathlib.Core.Logic.{_⊎_, inl, inr}
+use mathlib.Core.Logic.{_⊎_, _↔_, inl, inr}
 use mathlib.Core.Bool.{Bool, true, false, cond}
 use mathlib.Core.List.{List, [], _∷_, _++_}
 use Prim.Native.Nat.{ℕ, _+_, _<_}
@@ -108,6 +108,9 @@ module _ (ls : List (ℕ × ℕ)) (ordered : (a b : ℕ) → Among (a, b) ls →
   -- among ordered links, a link stands in the list where its first node has a port to its second
   pub repeat-seen : (a b : ℕ) → a < b → Among b (ports-of ls a) → Among (a, b) ls
   repeat-seen a b l h = elim (ports-joins ls b a h) [ inl x ↦ absurd (let z = ordered b a x in omega arith) | inr y ↦ y ]
+
+  pub repeat-iff : (a b : ℕ) → a < b → Among b (ports-of ls a) ↔ Among (a, b) ls
+  repeat-iff a b l = (repeat-seen a b l, joins-ports ls a b)
 
   pub ports-both : (u v : ℕ) → Among u (ports-of ls v) → Among v (ports-of ls u)
   ports-both u v h = elim (ports-joins ls u v h) [ inl x ↦ joins-ports ls u v x | inr y ↦ joins-ports-back ls v u y (λ e. let z = ordered v u y in absurd (omega arith)) ]
