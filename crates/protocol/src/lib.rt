@@ -1,0 +1,14 @@
+//! What a silent protocol means at a site, and the laws that every one owes; the meaning of ours, and their proofs.
+
+/// What a node tells.
+#[derive(Clone, Copy, PartialEq, Eq, Debug)]
+pub struct Output {
+    /// The next node towards the root, or none.
+    pub parent: Option<u16>,
+    /// How many nodes are on its branch.
+    pub count: u16,
+    /// Its number on the tour.
+    pub rank: u16,
+    /// The neighbour that it is paired with, or none.
+    pub mate: Option<u16>,
+}
