@@ -101,7 +101,7 @@ pub impl ReadLine for LinkLine as LinkRead {
 
     fn read(line: &[u8]) -> Option<LinkLine> {
         match read_pair(line) {
-            Some((a, b)) => Some(LinkLine { a, b }),
+            Some(ends) => Some(LinkLine { a: ends.0, b: ends.1 }),
             None => None,
         }
     }
@@ -119,7 +119,7 @@ pub impl ReadLine for FaultLine as FaultRead {
 
     fn read(line: &[u8]) -> Option<FaultLine> {
         match read_pair(line) {
-            Some((register, value)) => Some(FaultLine { register, value }),
+            Some(parts) => Some(FaultLine { register: parts.0, value: parts.1 }),
             None => None,
         }
     }
