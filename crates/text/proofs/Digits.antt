@@ -42,7 +42,7 @@ pub scanned :
 scanned l r d some is small lone h =
     let e : d ≡ getD l 0 0 - 48 = omega arith in
     subst (λ (x : List ℕ). Scanned x r) (sym (split l some))
-        (cons (getD l 0 0) _ r (omega arith) (omega arith) (λ z. lone (omega arith)) (subst (λ (x : ℕ). Following x (take (length l - 1) (drop 1 l)) r) e h))
+    (cons (getD l 0 0) _ r (omega arith) (omega arith) (λ z. lone (omega arith)) (subst (λ (x : ℕ). Following x (take (length l - 1) (drop 1 l)) r) e h))
 
 -- what is written of a number begins with 0 only if it is 0
 lone-zero : (n : ℕ) → n < 100000 → getD (decimal n) 0 0 ≡ 48 → length (decimal n) ≡ 1

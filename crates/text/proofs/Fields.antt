@@ -4,6 +4,7 @@ use mathlib.Core.List.{List, [], _∷_, _++_}
 use Prim.Native.Nat.{ℕ, zero, suc, _+_, _-_, _*_, _<_, _≤_}
 use native.Mathlib.Omega.{arith}
 use lib.ListN.{length, getD, take, drop, length-append}
+use Rattle.std.proofs.shelf.Lists.{take-all}
 use Rattle.text.specs.declared.number.Number.{Number}
 use Rattle.text.specs.declared.contents.Word.{Word as Contents-Word}
 use Rattle.text.specs.declared.field.Keyword.{Keyword}
@@ -75,12 +76,25 @@ pub two-from : (l xs ys : List ℕ) (f g : Field) → l ≡ xs ++ (59 ∷ ys) �
 two-from l xs ys f g cut p q = cc
 
 -- fields by the first and the rest, as a slice's pattern gives them
-pub line-one : (l : List Field) (d : Field) → length l ≡ 1 → line-of l ≡ field-of (getD l 0 d)
-line-one [] d e = absurd (omega arith)
-line-one (f ∷ []) d e = refl
-line-one (f ∷ (g ∷ gs)) d e = absurd (omega arith)
+pub line-none : (l : List Field) → length l < 1 → line-of l ≡ []
+line-none [] h = refl
+line-none (f ∷ fs) h = absurd (omega arith)
 
-pub line-more : (l : List Field) (d : Field) → 2 ≤ length l → line-of l ≡ field-of (getD l 0 d) ++ (59 ∷ line-of (drop 1 l))
-line-more [] d h = absurd (omega arith)
-line-more (f ∷ []) d h = absurd (omega arith)
-line-more (f ∷ (g ∷ gs)) d h = refl
+pub line-one : (l : List Field) (x : Field) → 1 ≤ length l → length l < 2 → x ≡ getD l 0 x → line-of l ≡ field-of x
+line-one [] x some few e = absurd (omega arith)
+line-one (f ∷ []) x some few e = ap field-of (sym e)
+line-one (f ∷ (g ∷ gs)) x some few e = absurd (omega arith)
+
+pub line-more :
+    (l : List Field) (x : Field) → 2 ≤ length l → x ≡ getD l 0 x
+    → line-of l ≡ field-of x ++ (59 ∷ line-of (take (length l - 1) (drop 1 l)))
+line-more [] x h e = absurd (omega arith)
+line-more (f ∷ []) x h e = absurd (omega arith)
+line-more (f ∷ (g ∷ gs)) x h e =
+    ap (λ (y : Field). field-of y ++ (59 ∷ line-of (g ∷ gs))) (sym e)
+    ∙ ap (λ (r : List Field). field-of x ++ (59 ∷ line-of r)) (sym (take-all (suc (suc (length gs)) - 1) (g ∷ gs) (omega arith)))
+
+pub length-more :
+    (l : List Field) (x : Field) → 2 ≤ length l → x ≡ getD l 0 x
+    → length (line-of l) ≡ length (field-of x) + 1 + length (line-of (take (length l - 1) (drop 1 l)))
+length-more l x h e = ap length (line-more l x h e) ∙ length-append (field-of x) (59 ∷ line-of (take (length l - 1) (drop 1 l))) ∙ omega arith

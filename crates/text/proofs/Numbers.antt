@@ -14,8 +14,9 @@ use Rattle.text.proofs.Digits.{few-digits, lacks-decimal}
 
 pub same-number : (m n : Number) → m .value ≡ n .value → m ≡ n
 same-number m n p = λ i. record {
-    value = p i;
-    five = isProp→PathP (λ j. p j < 100000) (λ j. le-prop) (m .five) (n .five) i }
+  value = p i;
+  five = isProp→PathP (λ j. p j < 100000) (λ j. le-prop) (m .five) (n .five) i;
+}
 
 pub written-once : (m n : Number) → written m ≡ written n → m ≡ n
 written-once m n e =

@@ -23,9 +23,9 @@ put-put at to bs cs page is h =
     let whole : p ++ (bs ++ r) ≡ (p ++ bs) ++ r = sym (append-assoc p bs r) in
     let a : take to (p ++ (bs ++ r)) ≡ p ++ bs = ap (take to) whole ∙ take-at (p ++ bs) r to f in
     let b : drop (to + length cs) (p ++ (bs ++ r)) ≡ drop (length cs) r =
-            sym (drop-drop (length cs) to (p ++ (bs ++ r))) ∙ ap (λ (x : List ℕ). drop (length cs) x) (ap (drop to) whole ∙ drop-at (p ++ bs) r to f) in
+    sym (drop-drop (length cs) to (p ++ (bs ++ r))) ∙ ap (λ (x : List ℕ). drop (length cs) x) (ap (drop to) whole ∙ drop-at (p ++ bs) r to f) in
     let e : drop (length cs) r ≡ drop (at + length (bs ++ cs)) page =
-            drop-drop (length cs) (at + length bs) page ∙ ap (λ (k : ℕ). drop k page) (add-assoc at (length bs) (length cs) ∙ ap (λ (k : ℕ). at + k) (sym (length-append bs cs))) in
+    drop-drop (length cs) (at + length bs) page ∙ ap (λ (k : ℕ). drop k page) (add-assoc at (length bs) (length cs) ∙ ap (λ (k : ℕ). at + k) (sym (length-append bs cs))) in
     let q = drop (at + length (bs ++ cs)) page in
     ap (λ (x : List ℕ). x ++ (cs ++ drop (to + length cs) (p ++ (bs ++ r)))) a
     ∙ ap (λ (x : List ℕ). (p ++ bs) ++ (cs ++ x)) (b ∙ e)
@@ -35,7 +35,7 @@ pub put-one : (at b : ℕ) (page : List ℕ) → at < length page → set page a
 put-one at b page h = set-split page at b h ∙ ap (λ (k : ℕ). take at page ++ (b ∷ drop k page)) (sym (add-one at))
 
 pub length-put : (at : ℕ) (bs page : List ℕ) → at + length bs ≤ length page → length (put at bs page) ≡ length page
-length-put at bs page h = 
+length-put at bs page h =
     ap length (sym (append-assoc (take at page) bs (drop (at + length bs) page))) ∙ length-append (take at page ++ bs) (drop (at + length bs) page)
     ∙ ap (λ (k : ℕ). k + length (drop (at + length bs) page)) (front at bs page h ∙ sym (length-take-le (at + length bs) page h))
     ∙ sym (length-append (take (at + length bs) page) (drop (at + length bs) page)) ∙ ap length (take-append-drop (at + length bs) page)
@@ -49,7 +49,11 @@ put-three at mid b xs ys page one three is fits p q =
     let lp : length (put at xs page) ≡ length page = length-put at xs page (omega arith) in
     let la : length (xs ++ (b ∷ [])) ≡ length xs + 1 = length-append xs (b ∷ []) in
     let two : set one mid b ≡ put at (xs ++ (b ∷ [])) page =
-            ap (λ (r : List ℕ). set r mid b) p ∙ put-one mid b (put at xs page) (omega arith) ∙ put-put at mid xs (b ∷ []) page is (omega arith) in
+    ap (λ (r : List ℕ). set r mid b) p ∙ put-one mid b (put at xs page) (omega arith) ∙ put-put at mid xs (b ∷ []) page is (omega arith) in
     q ∙ ap (λ (r : List ℕ). put (mid + 1) ys r) two
     ∙ put-put at (mid + 1) (xs ++ (b ∷ [])) ys page (omega arith) (omega arith)
     ∙ ap (λ (bs : List ℕ). put at bs page) (append-assoc xs (b ∷ []) ys)
+
+pub put-none : (at : ℕ) (bs page : List ℕ) → bs ≡ [] → put at bs page ≡ page
+put-none at bs page e =
+    ap (λ (x : List ℕ). put at x page) e ∙ ap (λ (k : ℕ). take at page ++ drop k page) (omega arith) ∙ take-append-drop at page

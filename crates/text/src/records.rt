@@ -101,7 +101,10 @@ pub impl ReadLine for LinkLine as LinkRead {
 
     fn read(line: &[u8]) -> Option<LinkLine> {
         match read_pair(line) {
-            Some(ends) => Some(LinkLine { a: ends.0, b: ends.1 }),
+            Some(ends) => Some(LinkLine {
+                a: ends.0,
+                b: ends.1,
+            }),
             None => None,
         }
     }
@@ -119,7 +122,10 @@ pub impl ReadLine for FaultLine as FaultRead {
 
     fn read(line: &[u8]) -> Option<FaultLine> {
         match read_pair(line) {
-            Some(parts) => Some(FaultLine { register: parts.0, value: parts.1 }),
+            Some(parts) => Some(FaultLine {
+                register: parts.0,
+                value: parts.1,
+            }),
             None => None,
         }
     }

@@ -39,9 +39,10 @@ returns t c =
     let at = c .args .at in
     let end = c .write-digits-end .result in
     let mid : length (put at (decimal (n / 10)) page) ≡ length page = length-put at (decimal (n / 10)) page (omega arith) in
-    let is = c .write-digits-end .ensures .1 in
-    (omega arith,
+    let is = c .write-digits-end .ensures .1 in (
+      omega arith,
       ap (λ (p : List ℕ). set p end (48 + n % 10)) is
-      ∙ put-one end (48 + n % 10) (put at (decimal (n / 10)) page) (omega arith)
-      ∙ put-put at end (decimal (n / 10)) ((48 + n % 10) ∷ []) page (c .write-digits-end .ensures .0) (omega arith)
-      ∙ ap (λ (bs : List ℕ). put at bs page) (sym d))
+          ∙ put-one end (48 + n % 10) (put at (decimal (n / 10)) page) (omega arith)
+          ∙ put-put at end (decimal (n / 10)) ((48 + n % 10) ∷ []) page (c .write-digits-end .ensures .0) (omega arith)
+          ∙ ap (λ (bs : List ℕ). put at bs page) (sym d),
+    )

@@ -21,9 +21,11 @@ loop-b-again c =
     let small = is .1 in
     let e : 10 ^ (i + 1 + 1) ≡ 10 ^ (i + 1) * 10 = ap (λ (k : ℕ). 10 ^ k) (add-one (i + 1)) ∙ pow-suc 10 (i + 1) in
     let below = c .loop-b .inv .0 in
-    let next : n * 10 + d ≡ n * 10 + (getD l i 0 - 48) = omega arith in
-    (omega arith, below-more _ _ (c .loop-b .inv .1) (omega arith, omega arith),
-      ap (λ (x : ℕ). value x (drop (i + 1) l)) next ∙ sym (at-drop-more (value n) l i 0 lt) ∙ c .loop-b .inv .2)
+    let next : n * 10 + d ≡ n * 10 + (getD l i 0 - 48) = omega arith in (
+      omega arith,
+      below-more _ _ (c .loop-b .inv .1) (omega arith, omega arith),
+      ap (λ (x : ℕ). value x (drop (i + 1) l)) next ∙ sym (at-drop-more (value n) l i 0 lt) ∙ c .loop-b .inv .2,
+    )
 
 pub returns : need.returns
 returns c =
