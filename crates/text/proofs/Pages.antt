@@ -40,20 +40,26 @@ length-put at bs page h =
     ∙ ap (λ (k : ℕ). k + length (drop (at + length bs) page)) (front at bs page h ∙ sym (length-take-le (at + length bs) page h))
     ∙ sym (length-append (take (at + length bs) page) (drop (at + length bs) page)) ∙ ap length (take-append-drop (at + length bs) page)
 
+-- a byte after a part
+pub put-end :
+    (at mid b : ℕ) (bs page one : List ℕ) → mid ≡ at + length bs → at + length bs + 1 ≤ length page
+    → one ≡ put at bs page → set one mid b ≡ put at (bs ++ (b ∷ [])) page
+put-end at mid b bs page one is fits p =
+    let l : length (put at bs page) ≡ length page = length-put at bs page (omega arith) in
+    ap (λ (r : List ℕ). set r mid b) p ∙ put-one mid b (put at bs page) (omega arith) ∙ put-put at mid bs (b ∷ []) page is (omega arith)
+
 -- two parts and a byte between them
 pub put-three :
     (at mid b : ℕ) (xs ys page one three : List ℕ) → mid ≡ at + length xs → at + length (xs ++ (b ∷ ys)) ≤ length page
     → one ≡ put at xs page → three ≡ put (mid + 1) ys (set one mid b) → three ≡ put at (xs ++ (b ∷ ys)) page
 put-three at mid b xs ys page one three is fits p q =
     let l : length (xs ++ (b ∷ ys)) ≡ length xs + 1 + length ys = length-append xs (b ∷ ys) ∙ omega arith in
-    let lp : length (put at xs page) ≡ length page = length-put at xs page (omega arith) in
-    let la : length (xs ++ (b ∷ [])) ≡ length xs + 1 = length-append xs (b ∷ []) in
-    let two : set one mid b ≡ put at (xs ++ (b ∷ [])) page =
-    ap (λ (r : List ℕ). set r mid b) p ∙ put-one mid b (put at xs page) (omega arith) ∙ put-put at mid xs (b ∷ []) page is (omega arith) in
-    q ∙ ap (λ (r : List ℕ). put (mid + 1) ys r) two
+    let k : length (xs ++ (b ∷ [])) ≡ length xs + 1 = length-append xs (b ∷ []) in
+    q ∙ ap (λ (r : List ℕ). put (mid + 1) ys r) (put-end at mid b xs page one is (omega arith) p)
     ∙ put-put at (mid + 1) (xs ++ (b ∷ [])) ys page (omega arith) (omega arith)
     ∙ ap (λ (bs : List ℕ). put at bs page) (append-assoc xs (b ∷ []) ys)
 
+-- nothing
 pub put-none : (at : ℕ) (bs page : List ℕ) → bs ≡ [] → put at bs page ≡ page
 put-none at bs page e =
     ap (λ (x : List ℕ). put at x page) e ∙ ap (λ (k : ℕ). take at page ++ drop k page) (omega arith) ∙ take-append-drop at page

@@ -9,8 +9,8 @@ use lib.Dec.{eqb, ltb}
 use lib.ListN.{length, getD}
 use Rattle.text.specs.declared.contents.Word.{Word}
 use Rattle.text.specs.declared.contents.Word.the-variants.{Nodes, Links, Faults, Turns}
-use Rattle.text.specs.declared.tally.TallyWord.{TallyWord}
-use Rattle.text.specs.declared.tally.TallyWord.the-variants.{Bound, Rounds, Last}
+use Rattle.text.specs.declared.report.TallyWord.{TallyWord}
+use Rattle.text.specs.declared.report.TallyWord.the-variants.{Bound, Rounds, Last}
 use Rattle.text.specs.declared.field.Keyword.{Keyword}
 use Rattle.text.specs.declared.field.Keyword.the-variants.{Contents, Tally, Refused, Absent}
 use Rattle.text.specs.Page.{Lacks}

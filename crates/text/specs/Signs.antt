@@ -1,8 +1,11 @@
--- What a byte is to the scanner.
+-- What a byte is to the scanner, and where a byte stands first.
 use mathlib.Core.Path.{_≡_}
+use mathlib.Core.List.{List}
 use mathlib.Core.Bool.{Bool, true, false}
 use Prim.Native.Nat.{ℕ, _+_, _<_, _≤_}
+use lib.ListN.{length, getD, take}
 use Rattle.std.specs.Text.{In}
+use Rattle.text.specs.Page.{Lacks}
 use Rattle.text.specs.declared.scan.Sign.{Sign}
 use Rattle.text.specs.declared.scan.Sign.the-variants.{Digit, Semicolon, LineFeed, Other}
 use Rattle.text.specs.declared.scan.Stop.{Stop}
@@ -24,3 +27,9 @@ code EndsLine = 10
 abbrev pub Tells : Bool → Type 0 → Type 0
 Tells true P = P
 Tells false P = P → ⊥
+
+-- k is the place of the first c in s, or the length of s
+pub record First (c : ℕ) (s : List ℕ) (k : ℕ) : Type 0 where
+  pub within : k ≤ length s
+  pub before : Lacks c (take k s)
+  pub found : k < length s → getD s k 0 ≡ c

@@ -11,8 +11,8 @@ use crate::contents::Word;
 use crate::number::Number;
 use crate::number::calls::count_digits;
 use crate::number::calls::write_digits;
+use crate::report::TallyWord;
 use crate::scan::field_end;
-use crate::tally::TallyWord;
 
 /// A field that is no number.
 #[derive(Clone, Copy)]

@@ -8,4 +8,3 @@ pub mod reader;
 pub mod records;
 pub mod report;
 pub mod scan;
-pub mod tally;

@@ -14,7 +14,17 @@ use crate::field::optional_field;
 use crate::field::write_fields;
 use crate::line::WriteLine;
 use crate::number::Number;
-use crate::tally::TallyWord;
+
+/// What a tally line tells.
+#[derive(Clone, Copy)]
+pub enum TallyWord {
+    /// The bound on the rounds.
+    Bound,
+    /// The rounds that are complete.
+    Rounds,
+    /// The round of the last change.
+    Last,
+}
 
 /// A number of the report, as `BOUND;12`.
 #[derive(Clone, Copy)]

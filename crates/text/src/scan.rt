@@ -1,10 +1,6 @@
 //! What a byte is to the scanner, and where a line or a field ends.
 ghost use mathlib.Core.Path.{_≡_};
-ghost use Prim.Native.Nat.{ℕ, _<_, _≤_};
-ghost use lib.Dec.{T};
-ghost use lib.ListN.{length, getD, take};
-ghost use Rattle.text.specs.Page.{Lacks};
-ghost use Rattle.text.specs.Signs.{Tells, Signs, code};
+ghost use Rattle.text.specs.Signs.{First, Signs, Tells, code};
 
 /// What a byte is to the scanner.
 #[derive(Clone, Copy)]
@@ -55,9 +51,7 @@ fn stops(stop: Stop, byte: u8) -> bool
 
 // The index of the first stop, or the length.
 fn seek(s: &[u8], stop: Stop) -> usize
-    ensures within { λ r. ⌜ r ≤ length (now (s .entry)) ⌝ }
-    ensures before { λ r. ⌜ Lacks (code stop) (take r (now (s .entry))) ⌝ }
-    ensures found { λ r. ⌜ (r < length (now (s .entry)) → getD (now (s .entry)) r 0 ≡ code stop) ⌝ }
+    ensures { λ r. ⌜ First (code stop) (now (s .entry)) r ⌝ }
 {
     for (i, x) in s.iter().enumerate() {
         if stops(stop, *x) {
@@ -69,18 +63,14 @@ fn seek(s: &[u8], stop: Stop) -> usize
 
 /// Where a line ends: the index of the first line feed, or the length.
 pub fn line_end(s: &[u8]) -> usize
-    ensures within { λ r. ⌜ r ≤ length (now (s .entry)) ⌝ }
-    ensures before { λ r. ⌜ Lacks 10 (take r (now (s .entry))) ⌝ }
-    ensures found { λ r. ⌜ (r < length (now (s .entry)) → getD (now (s .entry)) r 0 ≡ 10) ⌝ }
+    ensures { λ r. ⌜ First 10 (now (s .entry)) r ⌝ }
 {
     seek(s, Stop::LineFeed)
 }
 
 /// Where a field ends: the index of the first semicolon, or the length.
 pub fn field_end(s: &[u8]) -> usize
-    ensures within { λ r. ⌜ r ≤ length (now (s .entry)) ⌝ }
-    ensures before { λ r. ⌜ Lacks 59 (take r (now (s .entry))) ⌝ }
-    ensures found { λ r. ⌜ (r < length (now (s .entry)) → getD (now (s .entry)) r 0 ≡ 59) ⌝ }
+    ensures { λ r. ⌜ First 59 (now (s .entry)) r ⌝ }
 {
     seek(s, Stop::Semicolon)
 }

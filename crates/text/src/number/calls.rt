@@ -11,11 +11,14 @@ use super::Number;
 use crate::scan::Sign;
 
 impl Number {
+    /// Numbers are below this: they have at most five digits.
+    pub const LIMIT: u32 = 100000;
+
     /// The number, if it has at most five digits.
     pub fn new(value: u32) -> Option<Number>
         ensures { λ r. ⌜ Below value r ⌝ }
     {
-        if value < 100000 {
+        if value < Self::LIMIT {
             Some(Number { value })
         } else {
             None

@@ -24,7 +24,7 @@ impl<'a> Reader<'a> {
 
     /// How many lines have been read.
     pub fn lines(&self) -> usize
-        ensures { λ r. ⌜ r ≡ now (self .entry) .line ⌝ }
+        ensures { λ r. ⌜ r ≡ spot (now (self .entry)) .line ⌝ }
     {
         self.line
     }

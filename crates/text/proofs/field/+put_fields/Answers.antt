@@ -16,22 +16,13 @@ put-field-requires t c κs =
     omega (arith, ap length (line-one (c .args .fields .now) (c .only-item .result) (omega (arith, ltb-false)) (omega (arith, ltb-true)) (c .only-item .is)))
 
 pub put-field-mid-requires : need.put-field-mid-requires
-put-field-mid-requires t c κs =
-    let l = c .args .fields .now in
-    let some : 2 ≤ length l = omega (arith, ltb-false) in
-    omega (arith, length-more l (c .first-item .result) some (c .first-item .is))
+put-field-mid-requires t c κs = omega (arith, length-more (c .args .fields .now) (c .first-item .result) (omega (arith, ltb-false)) (c .first-item .is))
 
 pub index-page-mid : need.index-page-mid
-index-page-mid t c =
-    let l = c .args .fields .now in
-    let some : 2 ≤ length l = omega (arith, ltb-false) in
-    omega (arith, length-more l (c .first-item .result) some (c .first-item .is))
+index-page-mid t c = omega (arith, length-more (c .args .fields .now) (c .first-item .result) (omega (arith, ltb-false)) (c .first-item .is))
 
 pub add-mid : need.add-mid
-add-mid t c =
-    let l = c .args .fields .now in
-    let some : 2 ≤ length l = omega (arith, ltb-false) in
-    omega (arith, length-more l (c .first-item .result) some (c .first-item .is))
+add-mid t c = omega (arith, length-more (c .args .fields .now) (c .first-item .result) (omega (arith, ltb-false)) (c .first-item .is))
 
 pub put-fields-requires : need.put-fields-requires
 put-fields-requires t c κs =
