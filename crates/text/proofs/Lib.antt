@@ -4,3 +4,5 @@ pub mod Digits
 pub mod Numbers
 pub mod Words
 pub mod Fields
+pub mod Lines
+pub mod Spots

@@ -5,6 +5,6 @@ pub mod Digits
 pub mod Words
 pub mod Fields
 pub mod Line
-pub mod Report
+pub mod Lines
 pub mod Faults
 pub mod Spots

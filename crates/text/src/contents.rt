@@ -1,11 +1,10 @@
 //! The lines that say how many lines of each kind a file has.
 ghost use mathlib.Core.Path.{_≡_};
-ghost use Rattle.text.specs.Fields.{headed, line-of};
 ghost use Rattle.text.specs.Line.{Accepts};
+ghost use Rattle.text.specs.Lines.{contents-bytes};
 ghost use Rattle.text.specs.Number.{zero-number};
 ghost use Rattle.text.specs.Words.{letters};
 ghost use Rattle.text.specs.declared.contents.Word.the-variants.{Nodes};
-ghost use Rattle.text.specs.declared.field.Keyword.the-variants.{Contents};
 use crate::field::Keyword;
 use crate::field::fields_size;
 use crate::field::headed_fields;
@@ -57,7 +56,7 @@ fn find_word(name: &[u8]) -> Option<Word>
 }
 
 pub impl WriteLine for ContentsLine as ContentsWrite {
-    ghost bytes = { λ x. line-of (headed (Contents (x .word)) (x .number)) };
+    ghost bytes = { contents-bytes };
 
     fn size(&self) -> usize {
         fields_size(&headed_fields(Keyword::Contents(self.word), self.number))

@@ -1,8 +1,8 @@
 //! The lines of a file's body: links, faults and turns.
 ghost use mathlib.Core.Path.{_≡_};
-ghost use mathlib.Core.List.{[], _∷_};
-ghost use Rattle.text.specs.Fields.{PairRead, line-of, pair};
-ghost use Rattle.text.specs.Number.{written, zero-number};
+ghost use Rattle.text.specs.Fields.{PairRead};
+ghost use Rattle.text.specs.Lines.{fault-bytes, link-bytes, turn-bytes};
+ghost use Rattle.text.specs.Number.{zero-number};
 use crate::field::Field;
 use crate::field::fields_size;
 use crate::field::pair_fields;
@@ -54,7 +54,7 @@ fn read_pair(line: &[u8]) -> Option<(Number, Number)>
 }
 
 pub impl WriteLine for LinkLine as LinkWrite {
-    ghost bytes = { λ x. line-of (pair (x .a) (x .b)) };
+    ghost bytes = { link-bytes };
 
     fn size(&self) -> usize {
         fields_size(&pair_fields(self.a, self.b))
@@ -66,7 +66,7 @@ pub impl WriteLine for LinkLine as LinkWrite {
 }
 
 pub impl WriteLine for FaultLine as FaultWrite {
-    ghost bytes = { λ x. line-of (pair (x .register) (x .value)) };
+    ghost bytes = { fault-bytes };
 
     fn size(&self) -> usize {
         fields_size(&pair_fields(self.register, self.value))
@@ -78,7 +78,7 @@ pub impl WriteLine for FaultLine as FaultWrite {
 }
 
 pub impl WriteLine for TurnLine as TurnWrite {
-    ghost bytes = { λ x. written (x .node) };
+    ghost bytes = { turn-bytes };
 
     fn size(&self) -> usize {
         fields_size(&[Field::Value(self.node)])

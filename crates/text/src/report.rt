@@ -1,11 +1,6 @@
 //! The lines of a report, which are only written.
 ghost use mathlib.Core.Path.{_≡_};
-ghost use mathlib.Core.List.{[], _∷_};
-ghost use Rattle.text.specs.Fields.{headed, line-of, pair};
-ghost use Rattle.text.specs.Report.{node-fields};
-ghost use Rattle.text.specs.declared.field.Field.the-variants.{Word as Named};
-ghost use Rattle.text.specs.declared.field.Keyword.the-variants.{Refused};
-ghost use Rattle.text.specs.declared.field.Keyword.the-variants.{Tally as Told};
+ghost use Rattle.text.specs.Lines.{node-bytes, node-fields, refused-bytes, tally-bytes};
 use crate::field::Field;
 use crate::field::Keyword;
 use crate::field::fields_size;
@@ -60,7 +55,7 @@ pub struct NodeLine {
 }
 
 pub impl WriteLine for Tally as TallyWrite {
-    ghost bytes = { λ x. line-of (headed (Told (x .word)) (x .number)) };
+    ghost bytes = { tally-bytes };
 
     fn size(&self) -> usize {
         fields_size(&headed_fields(Keyword::Tally(self.word), self.number))
@@ -76,7 +71,7 @@ pub impl WriteLine for Tally as TallyWrite {
 }
 
 pub impl WriteLine for RefusedLine as RefusedWrite {
-    ghost bytes = { λ x. line-of (Named Refused ∷ pair (x .number) (x .line)) };
+    ghost bytes = { refused-bytes };
 
     fn size(&self) -> usize {
         fields_size(
@@ -117,7 +112,7 @@ impl NodeLine {
 }
 
 pub impl WriteLine for NodeLine as NodeWrite {
-    ghost bytes = { λ x. line-of (node-fields x) };
+    ghost bytes = { node-bytes };
 
     fn size(&self) -> usize {
         fields_size(&self.fields())

@@ -1,5 +1,5 @@
 use native.Mathlib.Omega.{arith}
-use Rattle.text.specs.Report.{node-fields}
+use Rattle.text.specs.Lines.{node-fields}
 use Rattle.text.proofs.Fields.{line-plain, line-short}
 use Rattle.text.proofs.report.NodeWrite.the-impl.Needs as need
 
