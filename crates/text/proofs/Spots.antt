@@ -1,20 +1,20 @@
 -- What a reader answers at a place is one thing.
-use mathlib.Core.Path.{_≡_, sym, ap, _∙_}
+use mathlib.Core.Path.{_≡_, refl, sym, ap, _∙_}
 use mathlib.Core.List.{List, [], _∷_, _++_}
-use Prim.Native.Nat.{ℕ}
+use Prim.Native.Nat.{ℕ, _+_}
 use Rattle.std.specs.declared.result.Result.the-variants.{Ok, Err}
 use Rattle.text.specs.declared.fault.ScanFault.{ScanFault}
 use Rattle.text.specs.declared.fault.ScanFault.the-variants.{Form, Lacking, Trailing}
-use Rattle.text.specs.Line.{NoLine}
 use Rattle.text.specs.Page.{Lacks}
 use Rattle.text.specs.Spots.{Spot, Takes, Why, AtEnd}
 use Rattle.text.proofs.Cuts.{cut-once, no-cut}
 
 module _ {X : Type 0} (bytes : X → List ℕ) (plain : (x : X) → Lacks 10 (bytes x)) where
   -- what stands before the first line feed is no written form
-  pub no-line :
-      (rest l more : List ℕ) → rest ≡ l ++ (10 ∷ more) → Lacks 10 l → ((x : X) → l ≡ bytes x → ⊥) → NoLine bytes rest
-  no-line rest l more cut none not x m e = not x (cut-once 10 l (bytes x) more m none (plain x) (sym cut ∙ e) .0)
+  pub not-form :
+      (p : Spot) (l more : List ℕ) → p .rest ≡ l ++ (10 ∷ more) → Lacks 10 l → ((x : X) → l ≡ bytes x → ⊥) → Why bytes p (Form (p .line + 1))
+  not-form p l more cut none not =
+      (refl, (λ lacks. no-cut 10 (p .rest) l more lacks cut), λ x m e. not x (cut-once 10 l (bytes x) more m none (plain x) (sym cut ∙ e) .0))
 
   -- one line is read, in one way
   pub takes-once :
