@@ -1,7 +1,7 @@
 -- A line of fields: its length, the bytes that it lacks, and that it tells its fields.
-use mathlib.Core.Path.{_≡_, refl, sym, ap, _∙_, subst}
+use mathlib.Core.Path.{_≡_, refl, sym, ap, _∙_}
 use mathlib.Core.List.{List, [], _∷_, _++_}
-use Prim.Native.Nat.{ℕ, zero, suc, _+_, _-_, _*_, _<_, _≤_}
+use Prim.Native.Nat.{ℕ, suc, _+_, _-_, _*_, _<_, _≤_}
 use native.Mathlib.Omega.{arith}
 use lib.ListN.{length, getD, take, drop, length-append}
 use Rattle.std.proofs.shelf.Lists.{take-all}
@@ -11,11 +11,8 @@ use Rattle.text.specs.declared.field.Keyword.{Keyword}
 use Rattle.text.specs.declared.field.Keyword.the-variants.{Contents}
 use Rattle.text.specs.declared.field.Field.{Field}
 use Rattle.text.specs.declared.field.Field.the-variants.{Word, Value}
-use Rattle.text.specs.Digits.{Digits}
 use Rattle.text.specs.Fields.{field-of, line-of, pair, headed}
-use Rattle.text.specs.Number.{written}
 use Rattle.text.specs.Page.{Lacks}
-use Rattle.text.specs.Words.{spelling}
 use Rattle.text.proofs.Cuts.{cut-once, no-cut, lacks-append}
 use Rattle.text.proofs.Numbers.{written-once, written-short, lacks-written}
 use Rattle.text.proofs.Words.{spelling-once, spelling-short, lacks-spelling}
@@ -70,10 +67,6 @@ two-parts l xs ys f g cut none e = cut-once 59 xs (field-of f) ys (field-of g) n
 -- what has no semicolon is no line of two fields
 pub not-two : (l : List ℕ) (f g : Field) → Lacks 59 l → l ≡ line-of (f ∷ (g ∷ [])) → ⊥
 not-two l f g none e = no-cut 59 l (field-of f) (field-of g) none e
-
--- two fields by their bytes
-pub two-from : (l xs ys : List ℕ) (f g : Field) → l ≡ xs ++ (59 ∷ ys) → xs ≡ field-of f → ys ≡ field-of g → l ≡ line-of (f ∷ (g ∷ []))
-two-from l xs ys f g cut p q = cc
 
 -- fields by the first and the rest, as a slice's pattern gives them
 pub line-none : (l : List Field) → length l < 1 → line-of l ≡ []

@@ -1,10 +1,6 @@
 -- Each kind of line: its bytes have no line feed, are short, and tell the line.
 use mathlib.Core.Path.{_≡_}
-use mathlib.Core.List.{List, [], _∷_}
-use Prim.Native.Nat.{ℕ, _≤_}
-use native.Mathlib.Omega.{arith}
-use lib.ListN.{length}
-use Rattle.text.specs.declared.field.Field.{Field}
+use mathlib.Core.List.{[], _∷_}
 use Rattle.text.specs.declared.field.Field.the-variants.{Value}
 use Rattle.text.specs.declared.field.Keyword.the-variants.{Contents}
 use Rattle.text.specs.declared.records.LinkLine.{LinkLine}

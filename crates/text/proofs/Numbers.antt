@@ -6,7 +6,7 @@ use native.Mathlib.Omega.{arith}
 use native.Mathlib.Bridge.{le-prop}
 use lib.ListN.{length}
 use Rattle.std.specs.Text.{In}
-use Rattle.std.proofs.shelf.Decimals.{same-from-decimal, decimal-some}
+use Rattle.std.proofs.shelf.Decimals.{same-from-decimal}
 use Rattle.text.specs.declared.number.Number.{Number}
 use Rattle.text.specs.Number.{written}
 use Rattle.text.specs.Page.{Lacks}

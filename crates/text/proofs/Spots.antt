@@ -2,7 +2,7 @@
 use mathlib.Core.Path.{_≡_, refl, sym, ap, _∙_}
 use mathlib.Core.List.{List, [], _∷_, _++_}
 use Prim.Native.Nat.{ℕ, _+_}
-use Rattle.std.specs.declared.result.Result.the-variants.{Ok, Err}
+use Rattle.std.specs.declared.result.Result.the-variants.{Err}
 use Rattle.text.specs.declared.fault.ScanFault.{ScanFault}
 use Rattle.text.specs.declared.fault.ScanFault.the-variants.{Form, Lacking, Trailing}
 use Rattle.text.specs.Page.{Lacks}

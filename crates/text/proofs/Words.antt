@@ -2,19 +2,18 @@
 use mathlib.Core.Path.{_≡_, refl, sym, ap, _∙_}
 use mathlib.Core.List.{List, [], _∷_}
 use mathlib.Core.Bool.{Bool, true, false, cond}
-use Prim.Native.Nat.{ℕ, _+_, _<_, _≤_}
+use Prim.Native.Nat.{ℕ, _≤_}
 use native.Mathlib.Omega.{arith}
 use Rattle.std.proofs.shelf.Ways.{tells}
 use lib.Dec.{eqb, ltb}
 use lib.ListN.{length, getD}
 use Rattle.text.specs.declared.contents.Word.{Word}
 use Rattle.text.specs.declared.contents.Word.the-variants.{Nodes, Links, Faults, Turns}
-use Rattle.text.specs.declared.report.TallyWord.{TallyWord}
 use Rattle.text.specs.declared.report.TallyWord.the-variants.{Bound, Rounds, Last}
 use Rattle.text.specs.declared.field.Keyword.{Keyword}
 use Rattle.text.specs.declared.field.Keyword.the-variants.{Contents, Tally, Refused, Absent}
 use Rattle.text.specs.Page.{Lacks}
-use Rattle.text.specs.Words.{letters, tally-letters, spelling}
+use Rattle.text.specs.Words.{letters, spelling}
 
 -- the word that begins with these two letters
 abbrev begun : ℕ → ℕ → Keyword
@@ -35,9 +34,6 @@ known Absent = refl
 
 pub spelling-once : (v w : Keyword) → spelling v ≡ spelling w → v ≡ w
 spelling-once v w e = sym (known v) ∙ ap (λ (l : List ℕ). begun (getD l 0 0) (getD l 1 0)) e ∙ known w
-
-pub letters-once : (v w : Word) → letters v ≡ letters w → v ≡ w
-letters-once v w e = let h = spelling-once (Contents v) (Contents w) e in cc
 
 pub spelling-short : (w : Keyword) → length (spelling w) ≤ 7
 spelling-short (Contents Nodes) = omega arith

@@ -1,9 +1,9 @@
 -- What a reader has yet to read, and what its calls answer.
 use mathlib.Core.Path.{_≡_}
 use mathlib.Core.List.{List, [], _∷_, _++_}
-use Prim.Native.Nat.{ℕ, _+_, _<_}
-use denote.Ref.{now, RefT}
-use lib.ListN.{length, drop, getD, take}
+use Prim.Native.Nat.{ℕ, _+_}
+use denote.Ref.{now}
+use lib.ListN.{drop}
 use Rattle.std.specs.declared.option.Option.{Option}
 use Rattle.std.specs.declared.option.Option.the-variants.{Some, None}
 use Rattle.std.specs.declared.result.Result.{Result}

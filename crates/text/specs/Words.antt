@@ -1,5 +1,5 @@
 -- The words of lines, by their letters.
-use mathlib.Core.List.{List, [], _∷_}
+use mathlib.Core.List.{List}
 use Prim.Native.Nat.{ℕ}
 use lib.Chars.{codes}
 use Rattle.text.specs.declared.contents.Word.{Word}

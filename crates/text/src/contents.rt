@@ -1,5 +1,4 @@
 //! The lines that say how many lines of each kind a file has.
-ghost use mathlib.Core.Path.{_≡_};
 ghost use Rattle.text.specs.Line.{Accepts};
 ghost use Rattle.text.specs.Lines.{contents-bytes};
 ghost use Rattle.text.specs.Number.{zero-number};

@@ -1,5 +1,5 @@
 //! The numbers of a file.
-ghost use Prim.Native.Nat.{ℕ, _<_};
+ghost use Prim.Native.Nat.{_<_};
 
 pub mod calls;
 

@@ -1,5 +1,4 @@
 //! The lines of a file's body: links, faults and turns.
-ghost use mathlib.Core.Path.{_≡_};
 ghost use Rattle.text.specs.Fields.{PairRead};
 ghost use Rattle.text.specs.Lines.{fault-bytes, link-bytes, turn-bytes};
 ghost use Rattle.text.specs.Number.{zero-number};

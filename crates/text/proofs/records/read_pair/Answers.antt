@@ -1,5 +1,5 @@
 use Rattle.text.specs.declared.field.Field.the-variants.{Value}
-use Rattle.text.proofs.Fields.{not-two, two-parts, two-from}
+use Rattle.text.proofs.Fields.{not-two, two-parts}
 use Rattle.text.proofs.records.read_pair.Needs as need
 
 pub returns-in-rest : need.returns-in-rest

@@ -1,6 +1,6 @@
 use Rattle.text.specs.declared.field.Field.the-variants.{Word, Value}
 use Rattle.text.specs.declared.field.Keyword.the-variants.{Contents}
-use Rattle.text.proofs.Fields.{not-two, two-parts, two-from}
+use Rattle.text.proofs.Fields.{two-parts}
 use Rattle.text.proofs.contents.ContentsRead.read.Needs as need
 
 pub returns-in-rest-find-word : need.returns-in-rest-find-word

@@ -1,12 +1,12 @@
-use mathlib.Core.Path.{_≡_, refl, sym, ap, _∙_}
-use mathlib.Core.List.{List, [], _∷_, _++_}
+use mathlib.Core.Path.{_≡_, sym, ap, _∙_}
+use mathlib.Core.List.{List, [], _∷_}
 use native.Mathlib.Omega.{arith}
-use Prim.Native.Nat.{ℕ, _+_, _/_, _%_, _<_, _≤_}
+use Prim.Native.Nat.{ℕ, _+_, _/_, _%_}
 use lib.ListN.{length, set}
 use Rattle.std.specs.Written.{decimal}
 use Rattle.std.proofs.shelf.Decimals.{decimal-digit, decimal-step}
 use Rattle.text.specs.Page.{put}
-use Rattle.text.proofs.Digits.{one-digit, more-digits, few-digits}
+use Rattle.text.proofs.Digits.{one-digit, more-digits}
 use Rattle.text.proofs.Pages.{put-put, put-one, length-put}
 use Rattle.text.proofs.number.calls.+write_digits.Needs as need
 

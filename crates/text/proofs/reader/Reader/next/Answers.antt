@@ -1,10 +1,10 @@
-use mathlib.Core.Path.{_≡_, refl, sym, ap, _∙_, subst}
-use mathlib.Core.List.{List, [], _∷_, _++_}
+use mathlib.Core.Path.{_≡_, refl, ap, _∙_, subst}
+use mathlib.Core.List.{List, _∷_, _++_}
 use Prim.Native.Nat.{ℕ, _+_, _-_, _<_, _≤_}
 use native.Mathlib.Omega.{arith}
 use native.Mathlib.Nat.{sub-zero}
 use lib.ListN.{length, getD, drop, take}
-use Rattle.std.proofs.shelf.Lists.{take-rest, getD-take, length-take-le, take-all, drop-drop}
+use Rattle.std.proofs.shelf.Lists.{take-rest, take-all, drop-drop}
 use Rattle.text.specs.Page.{Lacks}
 use Rattle.text.proofs.Cuts.{around}
 use Rattle.text.proofs.reader.Reader.next.Needs as need
