@@ -1,0 +1,10 @@
+pub mod Page
+pub mod Signs
+pub mod Number
+pub mod Digits
+pub mod Words
+pub mod Fields
+pub mod Line
+pub mod Lines
+pub mod Faults
+pub mod Spots
