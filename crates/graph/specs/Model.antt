@@ -49,14 +49,18 @@ pub record Greatest (m : Model) (h : ℕ) : Type 0 where
   pub most : (v d : ℕ) → v < m .nodes → Distance m v d → d ≤ h
   pub taken : (v : ℕ) × (v < m .nodes) × Distance m v h
 
--- what every site keeps
-pub record Proper (m : Model) : Type 0 where
+-- what a list of links keeps, whether or not all nodes are linked yet
+pub record Drawn (m : Model) : Type 0 where
   pub some : 1 ≤ m .nodes
   pub limit : m .nodes ≤ 256
   pub rooted : m .root < m .nodes
   pub ordered : (a b : ℕ) → Among (a, b) (m .links) → (a < b) × (b < m .nodes)
   pub once : Once (m .links)
   pub few : (v : ℕ) → v < m .nodes → length (ports m v) ≤ 8
+
+-- what every site keeps
+pub record Proper (m : Model) : Type 0 where
+  pub drawn : Drawn m
   pub reached : Reached m
 
 -- whether some element passes
