@@ -21,6 +21,10 @@ Ordered n ls = (a b : ℕ) → Among (a, b) (map ends ls) → (a < b) × (b < n)
 abbrev pub Single : List Link → Type 0
 Single ls = ∥ Once (map ends ls) ∥₁
 
+-- the list says of each of the n nodes that it is not reached yet
+abbrev pub Unreached : ℕ → List ℕ → Type 0
+Unreached n ds = (v : ℕ) → v < n → getD ds v 0 ≡ 65535
+
 -- every node is within reach of the root
 abbrev pub Within : Model → Type 0
 Within m = (v : ℕ) → v < m .nodes → within m (m .nodes) v ≡ true

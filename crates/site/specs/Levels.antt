@@ -6,9 +6,9 @@ use Prim.Native.Nat.{ℕ, suc, _<_, _≤_}
 use lib.Dec.{leb}
 use lib.ListN.{getD, length}
 use Rattle.lists.specs.Members.{Among}
-use Rattle.graph.specs.Model.{Model, ports, within, misses, distance, arcs-before}
+use Rattle.graph.specs.Model.{Model, Drawn, ports, within, misses, distance, arcs-before}
 use Rattle.site.specs.declared.node.Node.{Node}
-use Rattle.site.specs.Table.{entry, told}
+use Rattle.site.specs.Table.{Roomy, entry, told}
 
 -- what stands for a node after k levels: its distance if it is within k, else that it was not reached
 unfoldable pub mark : Model → ℕ → ℕ → ℕ
@@ -22,13 +22,13 @@ final m v = cond (within m (m .nodes) v) (distance m v) 65535
 abbrev pub Each : ℕ → (ℕ → ℕ) → List ℕ → Type 0
 Each n f ds = (v : ℕ) → v < n → getD ds v 0 ≡ f v
 
--- each of the n entries uses at most eight ports, and these are of the n
+-- each of the n entries has room for eight ports, and those that it tells are of the n
 abbrev pub Sound : List Node → ℕ → Type 0
-Sound ns n = (v : ℕ) → v < n → (entry ns v .degree ≤ 8) × ((u : ℕ) → Among u (told (entry ns v)) → u < n)
+Sound ns n = Roomy ns n × ((v : ℕ) → v < n → (u : ℕ) → Among u (told (entry ns v)) → u < n)
 
 -- the table is that of the model
 abbrev pub Drawing : Model → List Node → Type 0
-Drawing m ns = (length ns ≡ m .nodes) × (m .nodes ≤ 256) × ((v : ℕ) → v < m .nodes → told (entry ns v) ≡ ports m v)
+Drawing m ns = Drawn m × (length ns ≡ m .nodes) × ((v : ℕ) → v < m .nodes → told (entry ns v) ≡ ports m v)
 
 -- one level more: the marks before, whether a node was added, the marks after
 abbrev pub Spread : List Node → ℕ → List ℕ → Bool → List ℕ → Type 0

@@ -23,9 +23,9 @@ blank = record { degree = 0; ports = replicate 8 0 }
 abbrev pub plus : Node → ℕ → Node
 plus d to = record { degree = d .degree + 1; ports = set (d .ports) (d .degree) to }
 
--- the entry of a node
+-- the entry of a node; past the table it tells no ports
 abbrev pub entry : List Node → ℕ → Node
-entry ds v = getD ds v blank
+entry ds v = getD ds v (record { degree = 0; ports = [] })
 
 -- the site that a root, a number of nodes and a list of links stand for
 abbrev pub site-of : ℕ → ℕ → List Link → Model

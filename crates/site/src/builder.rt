@@ -2,7 +2,7 @@
 ghost use mathlib.Core.Path.{_≡_};
 ghost use Prim.Native.Nat.{_≤_};
 ghost use Rattle.std.specs.Of.Vec.{vec-cap, vec-items, vec-len};
-ghost use Rattle.site.specs.Kept.{Ordered, Single, Sized};
+ghost use Rattle.site.specs.Kept.{Ordered, Single, Sized, Unreached};
 ghost use Rattle.site.specs.Table.{Roomy, Table};
 use crate::link::Link;
 use crate::node::Node;
@@ -25,4 +25,5 @@ pub struct SiteBuilder {
     ghost room: { 1024 ≤ vec-cap links },
     ghost arced: { vec-len «first_arcs» ≡ vec-len nodes },
     ghost spaced: { vec-len distances ≡ vec-len nodes },
+    ghost blank: { Unreached (vec-len nodes) (vec-items distances) },
 }
