@@ -1,2 +1,4 @@
 pub mod Ends
 pub mod Marks
+pub mod Partial
+pub mod Whole
