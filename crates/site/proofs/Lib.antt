@@ -2,3 +2,5 @@ pub mod Ends
 pub mod Marks
 pub mod Partial
 pub mod Whole
+pub mod Adding
+pub mod Finishing

@@ -110,6 +110,18 @@ module _ (m : Model) where
   unfolding mark final distance
   final-all v = refl
 
+  pub final-in : (v : ℕ) → within m (m .nodes) v ≡ true → final m v ≡ distance m v
+  unfolding final
+  final-in v e = cond-true (within m (m .nodes) v) (distance m v) 65535 e
+
+  pub final-out : (v : ℕ) → within m (m .nodes) v ≡ false → final m v ≡ 65535
+  unfolding final
+  final-out v e = cond-false (within m (m .nodes) v) (distance m v) 65535 e
+
+  pub distance-small : (v : ℕ) → distance m v ≤ m .nodes
+  unfolding distance
+  distance-small v = misses-most v (m .nodes)
+
   pub final-stuck : Drawn m → (k : ℕ) → k < m .nodes → ((v : ℕ) → v < m .nodes → within m (suc k) v ≡ within m k v) → (v : ℕ) → v < m .nodes → mark m (suc k) v ≡ final m v
   final-stuck drawn k l h v i =
       let n = m .nodes in

@@ -5,8 +5,8 @@ use mathlib.Core.HLevel.{Unit-prop, ¬-prop, ×-prop}
 use mathlib.Core.List.{List, [], _∷_, map}
 use Prim.Native.Nat.{ℕ, _<_, _≤_}
 use native.Mathlib.Omega.{arith}
-use lib.ListN.{length, take}
-use Rattle.std.proofs.shelf.Lists.{length-take-le}
+use lib.ListN.{length, take, getD}
+use Rattle.std.proofs.shelf.Lists.{length-take-le, getD-read-under}
 use Rattle.std.specs.Of.Vec.{vec-items, vec-len}
 use Rattle.lists.specs.Members.{Among, Once}
 use Rattle.graph.specs.Model.{Model, Drawn, Proper, ports}
@@ -25,6 +25,10 @@ once-prop (x ∷ xs) = ×-prop ¬-prop (once-prop xs)
 
 pub once-from : {X : Type 0} (xs : List X) → ∥ Once xs ∥₁ → Once xs
 once-from xs t = ∥∥₁-elim t (once-prop xs) (λ o. o)
+
+-- what is read of a table is the entry
+pub entry-read : (ns : List Node) (v n : ℕ) (d : Node) → d ≡ getD ns v d → v < n → n ≡ length ns → d ≡ entry ns v
+entry-read ns v n d e l k = getD-read-under ns v n d (record { degree = 0; ports = [] }) e l k
 
 -- an entry's degree is the number of ports that it tells
 pub degree-is : (ns : List Node) (n : ℕ) → Roomy ns n → (v : ℕ) → v < n → length (told (entry ns v)) ≡ entry ns v .degree

@@ -1,6 +1,11 @@
 //! Entering links, and finishing the site.
 ghost use mathlib.Core.Path.{_≡_};
+ghost use Prim.Native.Nat.{_<_, _≤_};
+ghost use lib.ListN.{length};
+ghost use Rattle.std.specs.Orderings.{Decides};
 ghost use Rattle.refusal.specs.Checks.{Free};
+ghost use Rattle.lists.specs.Members.{Among};
+ghost use Rattle.graph.specs.Model.{ports};
 ghost use Rattle.site.specs.Entering.{Begun, Checked, Entered, Finished, link-checks, with-link};
 ghost use Rattle.site.specs.Sites.{draft};
 use super::SiteBuilder;
@@ -63,13 +68,29 @@ impl SiteBuilder {
         if a >= b || b >= self.nodes.len() {
             return Some(Refusal::Order);
         }
-        if self.nodes[a].has(b as u16) {
+        if self.linked(a, b) {
             return Some(Refusal::Repeat);
         }
-        if self.nodes[a].degree() >= PORTS || self.nodes[b].degree() >= PORTS {
+        if self.full(a) || self.full(b) {
             return Some(Refusal::Full);
         }
         None
+    }
+
+    /// Whether the link of `a` and `b` stands already.
+    fn linked(&self, a: usize, b: usize) -> bool
+        requires { ⌜ a < b ⌝ ∗ ⌜ b < draft (now self) .nodes ⌝ }
+        ensures { λ r. ⌜ Decides r (Among (a, b) (draft (now (self .entry)) .links)) ⌝ }
+    {
+        self.nodes[a].has(b as u16)
+    }
+
+    /// Whether a node has all the ports that it can have.
+    fn full(&self, v: usize) -> bool
+        requires { ⌜ v < draft (now self) .nodes ⌝ }
+        ensures { λ r. ⌜ Decides r (8 ≤ length (ports (draft (now (self .entry))) v)) ⌝ }
+    {
+        self.nodes[v].degree() >= PORTS
     }
 
     /// Adds a port to each end, and then the link.
