@@ -57,9 +57,10 @@ abbrev Fresh : Node → List ℕ → Type 0
 Fresh d ps = ((d .degree ≤ 8) × (length (d .ports) ≡ 8)) × (told d ≡ ps)
 
 fresh-plus : (d : Node) (x : ℕ) (ps : List ℕ) → d .degree < 8 → length (d .ports) ≡ 8 → told d ≡ ps → Fresh (plus d x) (ps ++ (x ∷ []))
-fresh-plus d x ps l r e =
-    ((omega arith, length-set (d .ports) (d .degree) x ∙ r),
-     take-more-set (d .ports) (d .degree) x (omega arith) ∙ ap (λ (w : List ℕ). w ++ (x ∷ [])) e)
+fresh-plus d x ps l r e = (
+  (omega arith, length-set (d .ports) (d .degree) x ∙ r),
+  take-more-set (d .ports) (d .degree) x (omega arith) ∙ ap (λ (w : List ℕ). w ++ (x ∷ [])) e,
+)
 
 module _ (ns : List Node) (n : ℕ) (ls : List Link) (a b : ℕ) (da db : Node) (ab : a < b) (bn : b < n) (len : n ≡ length ns) (roomy : Roomy ns n) (table : Table ns n ls)
     (ra : length (ports-of (map ends ls) a) ≤ 7) (rb : length (ports-of (map ends ls) b) ≤ 7) (ea : da ≡ plus (entry ns a) b) (eb : db ≡ plus (entry ns b) a) where
@@ -83,24 +84,24 @@ module _ (ns : List Node) (n : ℕ) (ls : List Link) (a b : ℕ) (da db : Node) 
       let e : entry two a ≡ plus (entry ns a) b = getD-set-other one b a db none (λ h. omega arith) ∙ getD-set-same ns a da none (omega arith) ∙ ea in
       let p = ports-push (map ends ls) a b a ∙ cond-true (eqb a a) (ports-of (map ends ls) a ++ (b ∷ [])) (cond (eqb b a) (ports-of (map ends ls) a ++ (a ∷ [])) (ports-of (map ends ls) a)) (eq-eqb a a refl) in
       subst (λ (d : Node). Fresh d (ports-of ls′ a)) (sym e) (subst (Fresh (plus (entry ns a) b)) (sym p)
-        (fresh-plus (entry ns a) b (ports-of (map ends ls) a) (low a (omega arith) ra) (roomy a (omega arith) .1) (table a (omega arith))))
+      (fresh-plus (entry ns a) b (ports-of (map ends ls) a) (low a (omega arith) ra) (roomy a (omega arith) .1) (table a (omega arith))))
 
   at-high : Fresh (entry two b) (ports-of ls′ b)
   at-high =
       let q = length-set ns a da in
       let e : entry two b ≡ plus (entry ns b) a = getD-set-same one b db none (omega arith) ∙ eb in
       let p = ports-push (map ends ls) a b b
-        ∙ cond-false (eqb a b) (ports-of (map ends ls) b ++ (b ∷ [])) (cond (eqb b b) (ports-of (map ends ls) b ++ (a ∷ [])) (ports-of (map ends ls) b)) (ne-eqb a b (λ h. omega arith))
-        ∙ cond-true (eqb b b) (ports-of (map ends ls) b ++ (a ∷ [])) (ports-of (map ends ls) b) (eq-eqb b b refl) in
+      ∙ cond-false (eqb a b) (ports-of (map ends ls) b ++ (b ∷ [])) (cond (eqb b b) (ports-of (map ends ls) b ++ (a ∷ [])) (ports-of (map ends ls) b)) (ne-eqb a b (λ h. omega arith))
+      ∙ cond-true (eqb b b) (ports-of (map ends ls) b ++ (a ∷ [])) (ports-of (map ends ls) b) (eq-eqb b b refl) in
       subst (λ (d : Node). Fresh d (ports-of ls′ b)) (sym e) (subst (Fresh (plus (entry ns b) a)) (sym p)
-        (fresh-plus (entry ns b) a (ports-of (map ends ls) b) (low b bn rb) (roomy b bn .1) (table b bn)))
+      (fresh-plus (entry ns b) a (ports-of (map ends ls) b) (low b bn rb) (roomy b bn .1) (table b bn)))
 
   at-other : (v : ℕ) → v < n → (v ≡ a → ⊥) → (v ≡ b → ⊥) → Fresh (entry two v) (ports-of ls′ v)
   at-other v l na nb =
       let e : entry two v ≡ entry ns v = getD-set-other one b v db none nb ∙ getD-set-other ns a v da none na in
       let p = ports-push (map ends ls) a b v
-        ∙ cond-false (eqb a v) (ports-of (map ends ls) v ++ (b ∷ [])) (cond (eqb b v) (ports-of (map ends ls) v ++ (a ∷ [])) (ports-of (map ends ls) v)) (ne-eqb a v (λ h. na (sym h)))
-        ∙ cond-false (eqb b v) (ports-of (map ends ls) v ++ (a ∷ [])) (ports-of (map ends ls) v) (ne-eqb b v (λ h. nb (sym h))) in
+      ∙ cond-false (eqb a v) (ports-of (map ends ls) v ++ (b ∷ [])) (cond (eqb b v) (ports-of (map ends ls) v ++ (a ∷ [])) (ports-of (map ends ls) v)) (ne-eqb a v (λ h. na (sym h)))
+      ∙ cond-false (eqb b v) (ports-of (map ends ls) v ++ (a ∷ [])) (ports-of (map ends ls) v) (ne-eqb b v (λ h. nb (sym h))) in
       subst (λ (d : Node). Fresh d (ports-of ls′ v)) (sym e) (subst (Fresh (entry ns v)) (sym p) (roomy v l, table v l))
 
   all-fresh : (v : ℕ) → v < n → Fresh (entry two v) (ports-of ls′ v)

@@ -15,10 +15,11 @@ use Rattle.graph.specs.Model.{Model, Drawn, Proper, Reached, within, distance, 
 use Rattle.graph.proofs.Drawn.{inside}
 use Rattle.graph.proofs.Distances.{within-reached, reached-within-nodes}
 use Rattle.graph.proofs.Heights.{distance-most, height-taken}
+use Rattle.site.specs.declared.node.Node.{Node}
 use Rattle.site.specs.declared.builder.SiteBuilder.{SiteBuilder}
 use Rattle.site.specs.Table.{entry, told}
-use Rattle.site.specs.Kept.{Within, Measured, Topped}
-use Rattle.site.specs.Levels.{mark, final, Each, Sound, Drawing, Searched}
+use Rattle.site.specs.Kept.{Within, Measured, Numbered, Topped}
+use Rattle.site.specs.Levels.{mark, final, Each, Sound, Drawing, Searched, Counted}
 use Rattle.site.specs.Sites.{draft}
 use Rattle.site.proofs.Marks.{mark-start, final-in, final-out, distance-small}
 use Rattle.site.proofs.Whole.{drawn-builder}
@@ -40,8 +41,24 @@ module _ (s : SiteBuilder) where
         | inr h ↦ getD-set-other (vec-items (s .distances)) (s .root) v 0 0 h ∙ s .blank v l ∙ sym (mark-start (draft s) v .1 h)
       ]
 
+  -- what the search leaves, read of the list that it was lent
+  pub searched : (ns : List Node) (ds es fs : List ℕ) → ns ≡ vec-items (s .nodes) → ds ≡ set (vec-items (s .distances)) (s .root) 0 → Searched ns ds es → fs ≡ es → Each (vec-len (s .nodes)) (final (draft s)) fs
+  searched ns ds es fs a b h e v l =
+      ap (λ (xs : List ℕ). getD xs v 0) e
+      ∙ h (draft s) (subst (Drawing (draft s)) (sym a) drawing) (subst (Each (vec-len (s .nodes)) (mark (draft s) 0)) (sym b) started) v l
+
+  -- the numbers of the arcs
+  pub numbered : (ns : List Node) (es fs : List ℕ) → ns ≡ vec-items (s .nodes) → Counted ns es → fs ≡ es → Numbered (draft s) fs
+  numbered ns es fs a h e v l = ap (λ (xs : List ℕ). getD xs v 0) e ∙ h (draft s) (subst (Drawing (draft s)) (sym a) drawing) v l
+
 -- the final marks, with their greatest
-module _ (m : Model) (drawn : Drawn m) (es : List ℕ) (top : ℕ) (marks : Each (m .nodes) (final m) es) (most : (v : ℕ) → v < m .nodes → getD es v 0 ≤ top) (taken : (v : ℕ) × (v < m .nodes) × (getD es v 0 ≡ top)) where
+module _ (m : Model) (drawn : Drawn m) (es : List ℕ) (top : ℕ) (len : length es ≡ m .nodes) (marks : Each (m .nodes) (final m) es) (high : (v : ℕ) → v < length es → getD es v 0 ≤ top) (found : 0 < length es → (v : ℕ) × (v < length es) × (getD es v 0 ≡ top)) where
+  most : (v : ℕ) → v < m .nodes → getD es v 0 ≤ top
+  most v l = high v (omega arith)
+
+  taken : (v : ℕ) × (v < m .nodes) × (getD es v 0 ≡ top)
+  taken = let n = drawn .some in let t = found (omega arith) in (t .0, omega (arith, t .1), t .2)
+
   -- a mark that says not reached is of a node out of reach
   pub out-of-reach : top ≡ 65535 → Reached m → ⊥
   out-of-reach e h =

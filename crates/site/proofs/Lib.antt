@@ -4,3 +4,4 @@ pub mod Partial
 pub mod Whole
 pub mod Adding
 pub mod Finishing
+pub mod Entries

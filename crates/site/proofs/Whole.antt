@@ -36,8 +36,13 @@ degree-is ns n r v l = let t = r v l in length-take-le (entry ns v .degree) (ent
 
 pub drawn-of : (n r : ℕ) (ns : List Node) (ls : List Link) → Sized n r → Ordered n ls → Single ls → Roomy ns n → Table ns n ls → Drawn (site-of n r ls)
 drawn-of n r ns ls z o s m t = record {
-    some = z .0; limit = z .1; rooted = z .2; ordered = o; once = once-from (map ends ls) s;
-    few = λ v l. let e = degree-is ns n m v l in let f = ap length (t v l) in let g = m v l .0 in omega arith }
+  some = z .0;
+  limit = z .1;
+  rooted = z .2;
+  ordered = o;
+  once = once-from (map ends ls) s;
+  few = λ v l. let e = degree-is ns n m v l in let f = ap length (t v l) in let g = m v l .0 in omega arith;
+}
 
 pub drawn-builder : (b : SiteBuilder) → Drawn (draft b)
 drawn-builder b = drawn-of (vec-len (b .nodes)) (b .root) (vec-items (b .nodes)) (vec-items (b .links)) (b .sized) (b .ordered) (b .single) (b .roomy) (b .table)

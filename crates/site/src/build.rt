@@ -15,8 +15,8 @@ pub fn build(heap: Global, nodes: usize, root: usize, links: &[Link]) -> Result<
     ensures { λ r. ⌜ Built nodes root (map ends (now (links .entry))) r ⌝ }
 {
     let mut builder = SiteBuilder::new(heap, nodes, root)?;
-    for l in links {
-        builder.enter(l.a as usize, l.b as usize)?;
+    for link in links {
+        builder.enter(link.a as usize, link.b as usize)?;
     }
     Ok(builder.finish()?)
 }

@@ -18,14 +18,15 @@ loop-d-again c =
     let inv = c .loop-d .inv in
     elim (c .if-d-top .came) [
       | then-d-top w ↦
-        let e = w .top-is in
-        let t = w .if-d-top .taken in
-        (below-more (λ v. getD ds v 0 ≤ top) i (λ v l. let h = inv .0 v l in omega arith) (omega arith), inr (i, omega arith, omega arith))
+          let e = w .top-is in
+          let t = w .if-d-top .taken in
+          (below-more (λ v. getD ds v 0 ≤ top) i (λ v l. let h = inv .0 v l in omega arith) (omega arith), inr (i, omega arith, omega arith))
       | else-d-top w ↦
-        let e = w .top-is in
-        let t = w .if-d-top .left in
-        (below-more (λ v. getD ds v 0 ≤ top) i (λ v l. let h = inv .0 v l in omega arith) (omega arith),
-         elim (inv .1) [ inl z ↦ inl (omega arith) | inr x ↦ inr (x .0, omega (arith, x .1), omega (arith, x .2)) ])
+          let e = w .top-is in
+          let t = w .if-d-top .left in (
+            below-more (λ v. getD ds v 0 ≤ top) i (λ v l. let h = inv .0 v l in omega arith) (omega arith),
+            elim (inv .1) [ inl z ↦ inl (omega arith) | inr x ↦ inr (x .0, omega (arith, x .1), omega (arith, x .2)) ],
+          )
     ]
 
 pub returns : need.returns
@@ -35,4 +36,5 @@ returns c =
     let q = c .loop-d-test .left in
     record {
       most = λ v l. inv .0 v (omega arith);
-      taken = λ some. elim (inv .1) [ inl z ↦ (0, some, let h = inv .0 0 (omega arith) in omega arith) | inr x ↦ (x .0, omega (arith, x .1), x .2) ] }
+      taken = λ some. elim (inv .1) [ inl z ↦ (0, some, let h = inv .0 0 (omega arith) in omega arith) | inr x ↦ (x .0, omega (arith, x .1), x .2) ];
+    }

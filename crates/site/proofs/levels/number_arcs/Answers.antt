@@ -27,18 +27,20 @@ loop-v-again c =
     let ns = c .args .nodes .now in
     let i = c .loop-v .v in
     let f = few c in
-    let a = c .loop-v .inv .0 in
-    (omega arith,
-     λ m d.
-       let b = c .loop-v .inv .1 m d in
-       let lt : i < length ns = c .loop-v-test .taken in
-       let r = c .pre .1 .0 i lt in
-       let deg : c .degree .result ≡ length (ports m i) =
-         c .degree .ensures ∙ sym (length-take-le (entry ns i .degree) (entry ns i .ports) (omega (arith, r .0, r .1))) ∙ ap length (d .2 i (omega (arith, d .1))) in
-       (ap (λ (n : ℕ). n + c .degree .result) (b .0) ∙ ap (λ (n : ℕ). arcs-before m i + n) deg ∙ ap (arcs-before m) (sym (add-one i)),
-        below-more (λ v. getD (set (c .loop-v .first-arcs) i (c .loop-v .total)) v 0 ≡ arcs-before m v) i
-          (λ v l. getD-set-other (c .loop-v .first-arcs) i v (c .loop-v .total) 0 (λ e. omega arith) ∙ b .1 v l)
-          (getD-set-same (c .loop-v .first-arcs) i (c .loop-v .total) 0 (let k = c .loop-v .kept .first-arcs in let p = c .pre .0 in omega arith) ∙ b .0)))
+    let a = c .loop-v .inv .0 in (
+      omega arith,
+      λ m d.
+          let b = c .loop-v .inv .1 m d in
+          let lt : i < length ns = c .loop-v-test .taken in
+          let r = c .pre .1 .0 i lt in
+          let deg : c .degree .result ≡ length (ports m i) =
+          c .degree .ensures ∙ sym (length-take-le (entry ns i .degree) (entry ns i .ports) (omega (arith, r .0, r .1))) ∙ ap length (d .2 i (omega (arith, d .1))) in (
+            ap (λ (n : ℕ). n + c .degree .result) (b .0) ∙ ap (λ (n : ℕ). arcs-before m i + n) deg ∙ ap (arcs-before m) (sym (add-one i)),
+            below-more (λ v. getD (set (c .loop-v .first-arcs) i (c .loop-v .total)) v 0 ≡ arcs-before m v) i
+                (λ v l. getD-set-other (c .loop-v .first-arcs) i v (c .loop-v .total) 0 (λ e. omega arith) ∙ b .1 v l)
+                (getD-set-same (c .loop-v .first-arcs) i (c .loop-v .total) 0 (let k = c .loop-v .kept .first-arcs in let p = c .pre .0 in omega arith) ∙ b .0),
+          ),
+    )
 
 pub returns : need.returns
 returns c = λ m d v l. c .loop-v .inv .1 m d .1 v (let e = d .1 in omega arith)

@@ -28,8 +28,8 @@ returns-then-distances-u c =
     let p : ℕ → Bool = λ u. leb (getD (c .args .distances .now) u 0) (c .args .level) in
     let u = getD (c .ports-u-items .result .now) (c .loop-u .u-index) 0 in
     sym (any-from p u (told (c .args .node .now))
-      (at-hand (c .ports-u-items .result .now) (told (c .args .node .now)) (c .loop-u .u-index) (c .ports-u-items .ensures) (c .loop-u-test .taken))
-      (le-leb (getD (c .args .distances .now) u 0) (c .args .level) (c .if-distances-u .taken)))
+    (at-hand (c .ports-u-items .result .now) (told (c .args .node .now)) (c .loop-u .u-index) (c .ports-u-items .ensures) (c .loop-u-test .taken))
+    (le-leb (getD (c .args .distances .now) u 0) (c .args .level) (c .if-distances-u .taken)))
 
 pub loop-u-again : need.loop-u-again
 loop-u-again c =
@@ -40,8 +40,8 @@ loop-u-again c =
     let i = c .loop-u .u-index in
     let l : i < length qs = subst (λ (xs : List ℕ). i < length xs) e (c .loop-u-test .taken) in
     any-more p qs i l (c .loop-u .inv)
-      (lt-leb (getD (c .args .distances .now) (getD qs i 0) 0) (c .args .level)
-        (subst (λ (xs : List ℕ). c .args .level < getD (c .args .distances .now) (getD xs i 0) 0) e (c .if-distances-u .left)))
+    (lt-leb (getD (c .args .distances .now) (getD qs i 0) 0) (c .args .level)
+    (subst (λ (xs : List ℕ). c .args .level < getD (c .args .distances .now) (getD xs i 0) 0) e (c .if-distances-u .left)))
 
 pub returns : need.returns
 returns c =

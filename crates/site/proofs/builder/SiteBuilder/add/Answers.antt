@@ -33,16 +33,25 @@ ghost-self c =
     let len = s .nodes .ok .0 in
     let ea : da ≡ plus (entry ns a) b = c .add .ensures ∙ ap (λ (d : Node). plus d b) (entry-read ns a n (c .index-mut .result .now) (c .index-mut .ensures .value) (omega (arith, o .0, o .1)) len) in
     let eb : db ≡ plus (entry ns b) a =
-      c .add-2 .ensures
-      ∙ ap (λ (d : Node). plus d a) (entry-read (set ns a da) b n (c .index-mut-2 .result .now) (c .index-mut-2 .ensures .value) (o .1) (len ∙ sym (length-set ns a da)) ∙ getD-set-other ns a b da (record { degree = 0; ports = [] }) (λ h. omega (arith, o .0))) in
+    c .add-2 .ensures
+    ∙ ap (λ (d : Node). plus d a) (entry-read (set ns a da) b n (c .index-mut-2 .result .now) (c .index-mut-2 .ensures .value) (o .1) (len ∙ sym (length-set ns a da)) ∙ getD-set-other ns a b da (record { degree = 0; ports = [] }) (λ h. omega (arith, o .0))) in
     let cap = c .push-reserved .ensures .capacity in
-    let room = s .room in
-    (s .sized,
-     (ordered-push n ls ms a b (o .0) (o .1) e (s .ordered),
-     (single-push ls ms a b (free-new (draft s) a b (c .pre)) e (s .single),
-     (roomy-push ns n ls a b da db (o .0) (o .1) len (s .roomy) (s .table) (r .0) (r .1) ea eb,
-     (table-push ns n ls a b da db (o .0) (o .1) len (s .roomy) (s .table) (r .0) (r .1) ea eb ms e,
-     (omega arith, (s .arced, (s .spaced, (s .blank, tt)))))))))
+    let room = s .room in (
+      s .sized,
+      (
+        ordered-push n ls ms a b (o .0) (o .1) e (s .ordered),
+        (
+          single-push ls ms a b (free-new (draft s) a b (c .pre)) e (s .single),
+          (
+            roomy-push ns n ls a b da db (o .0) (o .1) len (s .roomy) (s .table) (r .0) (r .1) ea eb,
+            (
+              table-push ns n ls a b da db (o .0) (o .1) len (s .roomy) (s .table) (r .0) (r .1) ea eb ms e,
+              (omega arith, (s .arced, (s .spaced, (s .blank, tt)))),
+            ),
+          ),
+        ),
+      ),
+    )
 
 pub returns : need.returns
 returns c =

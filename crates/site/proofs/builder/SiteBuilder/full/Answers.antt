@@ -16,6 +16,6 @@ returns c =
     let n = vec-len (s .nodes) in
     let r = c .degree .result in
     let e : r ≡ length (ports (draft s) v) =
-      c .degree .ensures ∙ ap (λ (d : Node). d .degree) (entry-read (vec-items (s .nodes)) v n (c .index .result .now) (c .index .ensures) (c .pre) (s .nodes .ok .0))
-      ∙ sym (degree-is (vec-items (s .nodes)) n (s .roomy) v (c .pre)) ∙ ap length (s .table v (c .pre)) in
+    c .degree .ensures ∙ ap (λ (d : Node). d .degree) (entry-read (vec-items (s .nodes)) v n (c .index .result .now) (c .index .ensures) (c .pre) (s .nodes .ok .0))
+    ∙ sym (degree-is (vec-items (s .nodes)) n (s .roomy) v (c .pre)) ∙ ap length (s .table v (c .pre)) in
     (λ t. let h = leb-true 8 r t in omega arith, λ h. le-leb 8 r (omega arith))

@@ -25,6 +25,7 @@ returns c =
     let b = c .args .b in
     let l : a < vec-len (s .nodes) = let p = c .pre .0 in let q = c .pre .1 in omega arith in
     let e : told (c .index .result .now) ≡ ports (draft s) a =
-      ap told (entry-read (vec-items (s .nodes)) a (vec-len (s .nodes)) (c .index .result .now) (c .index .ensures) l (s .nodes .ok .0)) ∙ s .table a l in
-    ((λ t. repeat-seen (draft s .links) (λ x y m. s .ordered x y m .0) a b (c .pre .0) (subst (Among b) e (c .has .ensures .0 t))),
-     λ m. c .has .ensures .1 (subst (Among b) (sym e) (joins-ports (draft s .links) a b m)))
+    ap told (entry-read (vec-items (s .nodes)) a (vec-len (s .nodes)) (c .index .result .now) (c .index .ensures) l (s .nodes .ok .0)) ∙ s .table a l in (
+      (λ t. repeat-seen (draft s .links) (λ x y m. s .ordered x y m .0) a b (c .pre .0) (subst (Among b) e (c .has .ensures .0 t))),
+      λ m. c .has .ensures .1 (subst (Among b) (sym e) (joins-ports (draft s .links) a b m)),
+    )

@@ -25,14 +25,31 @@ ghost-result c =
     let far = c .in-Continue-distances .ensures tt .exact (λ y e. e) in
     let items : vec-items table ≡ replicate n blank = c .in-Continue-table .ensures tt .exact (λ y e. e) ∙ ap (replicate n) (c .new .ensures) in
     let at : (v : ℕ) → v < n → entry (vec-items table) v ≡ blank =
-      λ v l. ap (λ (xs : List Node). entry xs v) items ∙ getD-replicate n v blank (record { degree = 0; ports = [] }) l in
+    λ v l. ap (λ (xs : List Node). entry xs v) items ∙ getD-replicate n v blank (record { degree = 0; ports = [] }) l in
     let cap = links .1 .1 in
     let arced = c .in-Continue-first-arcs .ensures tt .made .1 in
-    let spaced = c .in-Continue-distances .ensures tt .made .1 in
-    ((omega arith, omega arith, omega arith),
-     ((λ a b m. absurd (subst (λ (xs : List Link). Among (a, b) (map ends xs)) none m)),
-     (∣ subst (λ (xs : List Link). Once (map ends xs)) (sym none) tt ∣₁,
-     ((λ v l. subst (λ (d : Node). (d .degree ≤ 8) × (length (d .ports) ≡ 8)) (sym (at v (omega arith))) (omega arith, refl)),
-     ((λ v l. ap told (at v (omega arith)) ∙ ap (λ (xs : List Link). ports-of (map ends xs) v) (sym none)),
-     (cap, (omega arith, (omega arith,
-     ((λ v l. ap (λ (xs : List ℕ). getD xs v 0) far ∙ getD-replicate n v 65535 0 (omega arith)), tt)))))))))
+    let spaced = c .in-Continue-distances .ensures tt .made .1 in (
+      (omega arith, omega arith, omega arith),
+      (
+        (λ a b m. absurd (subst (λ (xs : List Link). Among (a, b) (map ends xs)) none m)),
+        (
+          ∣ subst (λ (xs : List Link). Once (map ends xs)) (sym none) tt ∣₁,
+          (
+            (λ v l. subst (λ (d : Node). (d .degree ≤ 8) × (length (d .ports) ≡ 8)) (sym (at v (omega arith))) (omega arith, refl)),
+            (
+              (λ v l. ap told (at v (omega arith)) ∙ ap (λ (xs : List Link). ports-of (map ends xs) v) (sym none)),
+              (
+                cap,
+                (
+                  omega arith,
+                  (
+                    omega arith,
+                    ((λ v l. ap (λ (xs : List ℕ). getD xs v 0) far ∙ getD-replicate n v 65535 0 (omega arith)), tt),
+                  ),
+                ),
+              ),
+            ),
+          ),
+        ),
+      ),
+    )

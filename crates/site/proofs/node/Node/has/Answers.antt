@@ -22,11 +22,12 @@ loop-p-again c =
     let e : ps ≡ qs = c .ports-p-items .ensures in
     let i = c .loop-p .p-index in
     among-more qs i (c .args .x) (subst (λ (xs : List ℕ). i < length xs) e (c .loop-p-test .taken)) (c .loop-p .inv)
-      (λ h. c .if-p-x .left (ap (λ (xs : List ℕ). getD xs i 0) e ∙ h))
+    (λ h. c .if-p-x .left (ap (λ (xs : List ℕ). getD xs i 0) e ∙ h))
 
 pub returns : need.returns
 returns c =
     let qs = told (c .args .self .now) in
-    let n = ap length (c .ports-p-items .ensures) in
-    ((λ e. let z : _≡_ {A = ℕ} 0 1 = cc in absurd (omega arith)),
-     λ h. absurd (c .loop-p .inv (subst (Among (c .args .x)) (sym (take-all (c .loop-p .p-index) qs (omega arith))) h)))
+    let n = ap length (c .ports-p-items .ensures) in (
+      (λ e. let z : _≡_ {A = ℕ} 0 1 = cc in absurd (omega arith)),
+      λ h. absurd (c .loop-p .inv (subst (Among (c .args .x)) (sym (take-all (c .loop-p .p-index) qs (omega arith))) h)),
+    )

@@ -15,6 +15,6 @@ returns c =
     let v = c .args .v in
     let lt : v < vec-len (s .nodes) = let a = c .len .ensures in let b = s .spaced in let d = c .if-v-len .left in omega arith in
     let e : c .index .result .now ≡ distance (model s) v =
-      getD-read-under (vec-items (s .distances)) v (vec-len (s .distances)) (c .index .result .now) 0 (c .index .ensures) (let b = s .spaced in omega arith) (s .distances .ok .0)
-      ∙ s .measured v lt in
+    getD-read-under (vec-items (s .distances)) v (vec-len (s .distances)) (c .index .result .now) 0 (c .index .ensures) (let b = s .spaced in omega arith) (s .distances .ok .0)
+    ∙ s .measured v lt in
     (lt, subst (Distance (model s) v) (sym e) (distance-is (model s) (proper s) v lt), e)
