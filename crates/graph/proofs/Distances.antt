@@ -79,6 +79,10 @@ module _ (m : Model) where
     pub walk-distance-below : (k v : ℕ) → Walk m k v → distance m v < m .nodes
     walk-distance-below k v w = shortest-below v (distance m v) (walk-distance k v w)
 
+    -- where there is a walk, there is one of fewer links than there are nodes
+    pub walk-short : (k v : ℕ) → Walk m k v → (j : ℕ) × (j < m .nodes) × Walk m j v
+    walk-short k v w = (distance m v, walk-distance-below k v w, walk-distance k v w .way)
+
     pub within-nodes : (k v : ℕ) → within m k v ≡ true → within m (m .nodes - 1) v ≡ true
     within-nodes k v e =
         let w = within-walk m k v e in
@@ -101,6 +105,13 @@ module _ (m : Model) where
 
     pub within-reached : (k : ℕ) → ((v : ℕ) → v < m .nodes → within m k v ≡ true) → Reached m
     within-reached k h v l = let t = within-walk m k v (h v l) in (t .0, t .2)
+
+    -- every node is reached, exactly where each is within as many links as there are nodes, or one less
+    pub reached-by : (Reached m → (v : ℕ) → v < m .nodes → within m (m .nodes) v ≡ true) × (((v : ℕ) → v < m .nodes → within m (m .nodes) v ≡ true) → Reached m)
+    reached-by = (reached-within-nodes, within-reached (m .nodes))
+
+    pub reached-by-less : (Reached m → (v : ℕ) → v < m .nodes → within m (m .nodes - 1) v ≡ true) × (((v : ℕ) → v < m .nodes → within m (m .nodes - 1) v ≡ true) → Reached m)
+    reached-by-less = (reached-within, within-reached (m .nodes - 1))
 
     pub reached? : Decided (Reached m)
     reached? = elim (all-below? (λ v. within m (m .nodes) v ≡ true) (λ v. elim (cases-bool (within m (m .nodes) v)) [ inl t ↦ inl t | inr f ↦ inr (λ e. both-ways (within m (m .nodes) v) f e) ]) (m .nodes)) [ inl a ↦ inl (within-reached (m .nodes) a) | inr n ↦ inr (λ h. n (reached-within-nodes h)) ]

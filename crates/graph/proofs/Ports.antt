@@ -1,13 +1,13 @@
 -- The ports that a list of links gives a node.
 use mathlib.Core.Path.{_≡_, refl, sym, ap, subst, _∙_}
-use mathlib.Core.Logic.{_⊎_, inl, inr}
+use mathlib.Core.Logic.{_⊎_, _↔_, inl, inr}
 use mathlib.Core.Bool.{Bool, true, false, cond}
 use mathlib.Core.List.{List, [], _∷_, _++_}
-use Prim.Native.Nat.{ℕ, zero, suc, _+_, _≤_, _<_}
+use Prim.Native.Nat.{ℕ, _+_, _<_}
 use native.Mathlib.Omega.{arith}
 use lib.Dec.{eqb}
 use lib.ListN.{length}
-use Rattle.std.proofs.shelf.Tests.{cases-bool, eq-eqb, eqb-true}
+use Rattle.std.proofs.shelf.Tests.{cases-bool, cond-true, cond-false, eq-eqb, ne-eqb, eqb-true}
 use Rattle.lists.specs.Members.{Among, Once}
 use Rattle.lists.proofs.Decisions.{same-pair}
 use Rattle.graph.specs.Model.{ports-of}
@@ -68,6 +68,15 @@ ports-append (l ∷ xs) ys v = ap (λ z. front (eqb (l .0) v) (eqb (l .1) v) (l 
 pub ports-push : (ls : List (ℕ × ℕ)) (a b v : ℕ) → ports-of (ls ++ ((a, b) ∷ [])) v ≡ cond (eqb a v) (ports-of ls v ++ (b ∷ [])) (cond (eqb b v) (ports-of ls v ++ (a ∷ [])) (ports-of ls v))
 ports-push ls a b v = ports-append ls ((a, b) ∷ []) v ∙ front-back (eqb a v) (eqb b v) a b (ports-of ls v)
 
+pub ports-push-first : (ls : List (ℕ × ℕ)) (a b : ℕ) → ports-of (ls ++ ((a, b) ∷ [])) a ≡ ports-of ls a ++ (b ∷ [])
+ports-push-first ls a b = ports-push ls a b a ∙ cond-true (eqb a a) (ports-of ls a ++ (b ∷ [])) (cond (eqb b a) (ports-of ls a ++ (a ∷ [])) (ports-of ls a)) (eq-eqb a a refl)
+
+pub ports-push-second : (ls : List (ℕ × ℕ)) (a b : ℕ) → (a ≡ b → ⊥) → ports-of (ls ++ ((a, b) ∷ [])) b ≡ ports-of ls b ++ (a ∷ [])
+ports-push-second ls a b d = ports-push ls a b b ∙ cond-false (eqb a b) (ports-of ls b ++ (b ∷ [])) (cond (eqb b b) (ports-of ls b ++ (a ∷ [])) (ports-of ls b)) (ne-eqb a b d) ∙ cond-true (eqb b b) (ports-of ls b ++ (a ∷ [])) (ports-of ls b) (eq-eqb b b refl)
+
+pub ports-push-other : (ls : List (ℕ × ℕ)) (a b v : ℕ) → (a ≡ v → ⊥) → (b ≡ v → ⊥) → ports-of (ls ++ ((a, b) ∷ [])) v ≡ ports-of ls v
+ports-push-other ls a b v d f = ports-push ls a b v ∙ cond-false (eqb a v) (ports-of ls v ++ (b ∷ [])) (cond (eqb b v) (ports-of ls v ++ (a ∷ [])) (ports-of ls v)) (ne-eqb a v d) ∙ cond-false (eqb b v) (ports-of ls v ++ (a ∷ [])) (ports-of ls v) (ne-eqb b v f)
+
 pub ports-length : (l : ℕ × ℕ) (ls : List (ℕ × ℕ)) (v : ℕ) → length (ports-of (l ∷ ls) v) ≡ cond (eqb (l .0) v) 1 (cond (eqb (l .1) v) 1 0) + length (ports-of ls v)
 ports-length l ls v = front-length (eqb (l .0) v) (eqb (l .1) v) (l .0) (l .1) (ports-of ls v)
 
@@ -99,6 +108,9 @@ module _ (ls : List (ℕ × ℕ)) (ordered : (a b : ℕ) → Among (a, b) ls →
   -- among ordered links, a link stands in the list where its first node has a port to its second
   pub repeat-seen : (a b : ℕ) → a < b → Among b (ports-of ls a) → Among (a, b) ls
   repeat-seen a b l h = elim (ports-joins ls b a h) [ inl x ↦ absurd (let z = ordered b a x in omega arith) | inr y ↦ y ]
+
+  pub repeat-iff : (a b : ℕ) → a < b → Among b (ports-of ls a) ↔ Among (a, b) ls
+  repeat-iff a b l = (repeat-seen a b l, joins-ports ls a b)
 
   pub ports-both : (u v : ℕ) → Among u (ports-of ls v) → Among v (ports-of ls u)
   ports-both u v h = elim (ports-joins ls u v h) [ inl x ↦ joins-ports ls u v x | inr y ↦ joins-ports-back ls v u y (λ e. let z = ordered v u y in absurd (omega arith)) ]

@@ -1,11 +1,12 @@
 -- Deciding what holds: of equal things, of the elements of a list, of the numbers below another.
 use mathlib.Core.Path.{_≡_, refl, sym, ap, subst, _∙_}
-use mathlib.Core.Logic.{_⊎_, inl, inr}
+use mathlib.Core.HLevel.{⊥-prop}
+use mathlib.Core.Logic.{_⊎_, inl, inr, ∥∥₁-elim}
 use mathlib.Core.List.{List, [], _∷_}
 use Prim.Native.Nat.{ℕ, zero, suc, _≤_, _<_}
 use native.Mathlib.Omega.{arith}
 use Rattle.std.proofs.shelf.Tests.{cases-eq, cases-lt}
-use Rattle.lists.specs.Members.{Among}
+use Rattle.lists.specs.Members.{Among, Once}
 
 abbrev pub Decided : Type 0 → Type 0
 Decided P = P ⊎ (P → ⊥)
@@ -24,8 +25,20 @@ pub not? : {P : Type 0} → Decided P → Decided (P → ⊥)
 not? (inl p) = inr (λ h. h p)
 not? (inr p) = inl p
 
+-- what is decided comes out of a truncation, as a ghost field has it
+pub decided-from : {P : Type 0} → Decided P → ∥ P ∥₁ → P
+decided-from (inl p) t = p
+decided-from (inr n) t = absurd (∥∥₁-elim t ⊥-prop n)
+
+pub same? : {P Q : Type 0} → (P → Q) → (Q → P) → Decided P → Decided Q
+same? f g (inl p) = inl (f p)
+same? f g (inr n) = inr (λ q. n (g q))
+
 pub lt? : (a b : ℕ) → Decided (a < b)
 lt? a b = elim (cases-lt a b) [ inl l ↦ inl l | inr l ↦ inr (λ h. absurd (omega arith)) ]
+
+pub le? : (a b : ℕ) → Decided (a ≤ b)
+le? a b = elim (cases-lt b a) [ inl l ↦ inr (λ h. absurd (omega arith)) | inr l ↦ inl l ]
 
 pub same-pair : {X Y : Type 0} {a c : X} {b d : Y} → a ≡ c → b ≡ d → _≡_ {A = X × Y} (a, b) (c, d)
 same-pair {X} {Y} {a} {c} {b} {d} e f = ap {A = X} {B = X × Y} (λ z. (z, b)) e ∙ ap {A = Y} {B = X × Y} (λ z. (c, z)) f
@@ -58,6 +71,19 @@ any? {X} P d (x ∷ xs) = go (d x) (any? P d xs)
     go (inl p) r = inl (x, inl refl, p)
     go (inr p) (inl t) = inl (t .0, inr (t .1), t .2)
     go (inr p) (inr q) = inr (λ t. elim (t .1) [ inl e ↦ p (subst P e (t .2)) | inr m ↦ q (t .0, m, t .2) ])
+
+-- whether every element of the list passes
+pub all? : {X : Type 0} (P : X → Type 0) → ((u : X) → Decided (P u)) → (xs : List X) → Decided ((u : X) → Among u xs → P u)
+all? {X} P d xs = go (any? (λ u. P u → ⊥) (λ u. not? (d u)) xs)
+  where
+    go : Decided ((u : X) × Among u xs × (P u → ⊥)) → Decided ((u : X) → Among u xs → P u)
+    go (inl t) = inr (λ h. t .2 (h (t .0) (t .1)))
+    go (inr q) = inl (λ u m. elim (d u) [ inl p ↦ p | inr p ↦ absurd (q (u, m, p)) ])
+
+-- whether no element stands twice
+pub once? : {X : Type 0} → ((x y : X) → Decided (x ≡ y)) → (xs : List X) → Decided (Once xs)
+once? f [] = inl tt
+once? f (x ∷ xs) = both? (not? (among? f x xs)) (once? f xs)
 
 -- whether some number below n passes
 pub below? : (P : ℕ → Type 0) → ((u : ℕ) → Decided (P u)) → (n : ℕ) → Decided ((u : ℕ) × (u < n) × P u)
