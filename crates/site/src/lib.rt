@@ -1,0 +1,9 @@
+//! Sites: links entered one by one into a builder, and the finished site with its ports, arcs and distances.
+pub mod build;
+pub mod builder;
+pub mod fault;
+pub mod levels;
+pub mod limits;
+pub mod link;
+pub mod node;
+pub mod site;

@@ -1,0 +1,31 @@
+//! A finished site.
+ghost use mathlib.Core.Path.{_≡_};
+ghost use Rattle.std.specs.Of.Vec.{vec-items, vec-len};
+ghost use Rattle.site.specs.Kept.{Measured, Numbered, Ordered, Single, Sized, Topped, Within};
+ghost use Rattle.site.specs.Table.{Roomy, Table, site-of};
+use crate::link::Link;
+use crate::node::Node;
+
+pub mod calls;
+
+/// A finished site: every node is reached, and its ports, arcs and distances stand ready.
+#[derive(Drop)]
+pub struct Site {
+    pub(crate) root: u16,
+    pub(crate) height: u16,
+    pub(crate) nodes: Vec<Node>,
+    pub(crate) links: Vec<Link>,
+    pub(crate) first_arcs: Vec<u16>,
+    pub(crate) distances: Vec<u16>,
+    ghost sized: { Sized (vec-len nodes) root },
+    ghost ordered: { Ordered (vec-len nodes) (vec-items links) },
+    ghost single: { Single (vec-items links) },
+    ghost roomy: { Roomy (vec-items nodes) (vec-len nodes) },
+    ghost table: { Table (vec-items nodes) (vec-len nodes) (vec-items links) },
+    ghost arced: { vec-len «first_arcs» ≡ vec-len nodes },
+    ghost spaced: { vec-len distances ≡ vec-len nodes },
+    ghost within: { Within (site-of (vec-len nodes) root (vec-items links)) },
+    ghost numbered: { Numbered (site-of (vec-len nodes) root (vec-items links)) (vec-items «first_arcs») },
+    ghost measured: { Measured (site-of (vec-len nodes) root (vec-items links)) (vec-items distances) },
+    ghost topped: { Topped (site-of (vec-len nodes) root (vec-items links)) height },
+}
