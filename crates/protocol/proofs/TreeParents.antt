@@ -1,36 +1,40 @@
 -- The legitimate parents of Tree: they exist, are unique, and are a breadth-first tree.
 use mathlib.Core.Path.{_≡_, refl, sym, ap, subst, _∙_}
-use mathlib.Core.Logic.{_⊎_, inl, inr}
-use mathlib.Core.Bool.{Bool, true, false, cond}
-use mathlib.Core.List.{List}
-use Prim.Native.Nat.{ℕ, zero, suc, _+_, _-_, _≤_, _<_}
+use mathlib.Core.Logic.{inl, inr}
+use mathlib.Core.Bool.{cond}
+use Prim.Native.Nat.{ℕ, zero, suc, _+_, _-_, _<_}
 use native.Mathlib.Omega.{arith}
 use lib.Dec.{eqb}
-use Rattle.std.proofs.shelf.Tests.{cases-eq, cond-true, cond-false}
-use Rattle.std.proofs.shelf.Ways.{eqb-tells}
-use Rattle.std.specs.declared.option.Option.{Option}
+use Rattle.std.proofs.shelf.Tests.{cases-eq, eqb-true, eq-eqb, ne-eqb, cond-true, cond-false}
 use Rattle.std.specs.declared.option.Option.the-variants.{Some, None}
 use Rattle.lists.specs.Members.{Among}
 use Rattle.graph.specs.Model.{Model, Proper, Walk, ports, distance, height}
 use Rattle.graph.proofs.Drawn.{inside}
 use Rattle.graph.proofs.Heights.{distance-is, root-distance, root-only, distance-next, distance-most, height-taken}
 use Rattle.protocol.specs.declared.Output.{Output}
-use Rattle.protocol.specs.Outputs.{stored, Chain, Tall}
+use Rattle.protocol.specs.Outputs.{plain, with-parent, Chain, Tall}
 use Rattle.protocol.specs.First.{first, IsFirst}
-use Rattle.protocol.specs.Tree.{nearer, Legitimate, tree-parent, Leads, BreadthFirst, TellsTree, TellsOne}
-use Rattle.protocol.proofs.FirstLaws.{eqb-true, first-is, first-exists, is-first-among}
+use Rattle.protocol.specs.Tree.{nearer, Legitimate, tree-parent, Leads, LegitimateExists, TellsTree, TellsOne}
+use Rattle.protocol.proofs.FirstLaws.{first-among, first-is, first-exists, is-first-among}
 
 pub cond-same : {A : Type 0} (a b : ℕ) (x y : A) → a ≡ b → cond (eqb a b) x y ≡ x
-cond-same a b x y e = elim (eqb-tells a b) [ inl t ↦ cond-true (eqb a b) x y (t .0) | inr t ↦ absurd (t .1 e) ]
+cond-same a b x y e = cond-true (eqb a b) x y (eq-eqb a b e)
 
 pub cond-apart : {A : Type 0} (a b : ℕ) (x y : A) → (a ≡ b → ⊥) → cond (eqb a b) x y ≡ y
-cond-apart a b x y d = elim (eqb-tells a b) [ inl t ↦ absurd (d (t .1)) | inr t ↦ cond-false (eqb a b) x y (t .0) ]
+cond-apart a b x y d = cond-false (eqb a b) x y (ne-eqb a b d)
 
 pub parent-root : (m : Model) (v : ℕ) → v ≡ m .root → tree-parent m v ≡ None
 parent-root m v e = cond-same v (m .root) None (first (nearer m v) (ports m v)) e
 
 pub parent-other : (m : Model) (v : ℕ) → (v ≡ m .root → ⊥) → tree-parent m v ≡ first (nearer m v) (ports m v)
 parent-other m v d = cond-apart v (m .root) None (first (nearer m v) (ports m v)) d
+
+-- that parent is a neighbour
+pub parent-among : (m : Model) (v u : ℕ) → tree-parent m v ≡ Some u → Among u (ports m v)
+parent-among m v u e = elim (cases-eq v (m .root)) [
+  | inl q ↦ absurd (let a = parent-root m v q in let z : _≡_ {A = ℕ} 0 1 = cc in omega arith)
+  | inr d ↦ first-among (nearer m v) (ports m v) u (sym (parent-other m v d) ∙ e) .0
+]
 
 -- what legitimate outputs tell is that parent
 pub legitimate-parent : (m : Model) (t : ℕ → Output) → Legitimate m t → (v : ℕ) → v < m .nodes → t v .parent ≡ tree-parent m v
@@ -51,8 +55,7 @@ module _ (m : Model) (proper : Proper m) where
   parent-exists v l d =
       let p = distance-other v l d in
       let t = distance-next m proper v (distance m v - 1) l (omega arith) in
-      let e : distance m (t .0) + 1 ≡ distance m v = omega (arith, t .3) in
-      first-exists (nearer m v) (ports m v) (t .0) (t .2) (elim (eqb-tells (distance m (t .0) + 1) (distance m v)) [ inl q ↦ q .0 | inr q ↦ absurd (q .1 e) ])
+      first-exists (nearer m v) (ports m v) (t .0) (t .2) (eq-eqb (distance m (t .0) + 1) (distance m v) (omega (arith, t .3)))
 
   -- outputs that tell that parent are legitimate
   pub parent-legitimate : (t : ℕ → Output) → ((v : ℕ) → v < m .nodes → t v .parent ≡ tree-parent m v) → Legitimate m t
@@ -60,6 +63,9 @@ module _ (m : Model) (proper : Proper m) where
     root = h (m .root) (proper .drawn .rooted) ∙ parent-root m (m .root) refl;
     other = λ v l d. (let r = parent-exists v l d in (r .0, h v l ∙ parent-other m v d ∙ r .1, r .2));
   }
+
+  pub legitimate-exists : LegitimateExists m
+  legitimate-exists = (λ v. with-parent plain (tree-parent m v), parent-legitimate (λ v. with-parent plain (tree-parent m v)) (λ v l. refl))
 
   module _ (t : ℕ → Output) (h : Legitimate m t) where
     only : (v : ℕ) → v < m .nodes → t v .parent ≡ None → v ≡ m .root
@@ -70,12 +76,12 @@ module _ (m : Model) (proper : Proper m) where
     near v u l e = elim (cases-eq v (m .root)) [
       | inl q ↦ absurd (let a = h .root in let b = ap (λ z. t z .parent) q in let z : _≡_ {A = ℕ} 0 1 = cc in omega arith)
       | inr d ↦ (
-        let r = h .other v l d in
-        let a = r .1 in
-        let q : r .0 ≡ u = cc in
-        let f = subst (IsFirst (nearer m v) (ports m v)) q (r .2) in
-        (is-first-among (nearer m v) (ports m v) u f, sym (eqb-true (distance m u + 1) (distance m v) (f .passes)))
-      )
+          let r = h .other v l d in
+          let a = r .1 in
+          let q : r .0 ≡ u = cc in
+          let f = subst (IsFirst (nearer m v) (ports m v)) q (r .2) in
+          (is-first-among (nearer m v) (ports m v) u f, sym (eqb-true (distance m u + 1) (distance m v) (f .passes)))
+          )
     ]
 
     -- the chain from a node at distance d

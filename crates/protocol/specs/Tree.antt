@@ -77,14 +77,18 @@ pub record BreadthFirst (m : Model) (t : ℕ → Output) : Type 0 where
   pub walk : (v k : ℕ) → v < m .nodes → Leads t k v (m .root) → Walk m k v
   pub shortest : (v k : ℕ) → v < m .nodes → Walk m k v → distance m v ≤ k
 
--- the outputs of a site that are legitimate tell such a tree
+-- some outputs are legitimate
+abbrev pub LegitimateExists : Model → Type 0
+LegitimateExists m = (t : ℕ → Output) × Legitimate m t
+
+-- all such outputs tell a breadth-first tree
 abbrev pub TellsTree : Model → Type 0
 TellsTree m = (t : ℕ → Output) → Legitimate m t → BreadthFirst m t
 
--- and all of them the same one
+-- and the same one
 abbrev pub TellsOne : Model → Type 0
 TellsOne m = (t o : ℕ → Output) → Legitimate m t → Legitimate m o → (v : ℕ) → v < m .nodes → t v .parent ≡ o v .parent
 
 -- the theorems about Tree, at every site
 abbrev pub TreeLaws : Type 0
-TreeLaws = (m : Model) → Proper m → Laws m (tree m) × TellsTree m × TellsOne m
+TreeLaws = (m : Model) → Proper m → Laws m (tree m) × LegitimateExists m × TellsTree m × TellsOne m
