@@ -1,0 +1,4 @@
+pub mod FirstLaws
+pub mod TreeParents
+pub mod TreeTurns
+pub mod TreeLaws
