@@ -1,7 +1,7 @@
 use mathlib.Core.Path.{_≡_, refl, sym, ap, _∙_, subst}
 use mathlib.Core.Logic.{_⊎_, inl, inr}
 use mathlib.Core.List.{List, [], _∷_}
-use Prim.Native.Nat.{ℕ, zero, suc, _≤_, _<_}
+use Prim.Native.Nat.{ℕ, zero, suc, _+_, _≤_, _<_}
 use native.Mathlib.Omega.{arith}
 use lib.ListN.{length}
 use Rattle.std.proofs.shelf.Tests.{cases-lt}
@@ -50,6 +50,26 @@ depths-inside n par d deep v w l e = deep .link v w l e .0
 
 pub depths-low : (n : ℕ) (par d : ℕ → ℕ) → Depths n par d → (v : ℕ) → v < n → d v < n
 depths-low n par d deep v l = chain-short n par (d v) v (depths-inside n par d deep) l (depths-chain n par d deep v l)
+
+-- what holds of a node once it holds of its children, holds of every node
+pub by-children : (n : ℕ) (par d : ℕ → ℕ) → Depths n par d → (P : ℕ → Type 0) → ((v : ℕ) → v < n → ((c : ℕ) → c < n → par c ≡ suc v → P c) → P v) → (v : ℕ) → v < n → P v
+by-children n par d deep P step v l = go n v l (omega arith)
+  where
+    go : (k v : ℕ) → v < n → n ≤ d v + k → P v
+    go zero v l h = absurd (omega (arith, depths-low n par d deep v l))
+    go (suc k) v l h = step v l (λ c m e. go k c m (omega (arith, deep .link c v m e .1)))
+
+-- what holds of nodes with no parent, and of a node once it holds of its parent, holds of every node
+pub by-parents : (n : ℕ) (par d : ℕ → ℕ) → Depths n par d → (P : ℕ → Type 0) → ((v : ℕ) → v < n → par v ≡ 0 → P v) → ((v w : ℕ) → v < n → w < n → par v ≡ suc w → P w → P v) → (v : ℕ) → v < n → P v
+by-parents n par d deep P top next v l = go (suc (d v)) v l (omega arith)
+  where
+    at : (v : ℕ) → v < n → (p : ℕ) → par v ≡ p → ((w : ℕ) → w < n → d v ≡ suc (d w) → P w) → P v
+    at v l zero e rec = top v l e
+    at v l (suc w) e rec = let t = deep .link v w l e in next v w l (t .0) e (rec w (t .0) (t .1))
+
+    go : (k v : ℕ) → v < n → d v < k → P v
+    go zero v l h = absurd (omega arith)
+    go (suc k) v l h = at v l (par v) refl (λ w m e. go k w m (omega arith))
 
 pub depths-tall : DepthsTall
 depths-tall n par d h deep g = record {

@@ -3,8 +3,10 @@ pub mod RunsLaws
 pub mod PlacesLaws
 pub mod Sums
 pub mod Counting
+pub mod Joins
+pub mod Kept
 pub mod ChainLaws
 pub mod SizeLaws
-pub mod Joins
 pub mod PreorderLaws
 pub mod RankLaws
+pub mod RankRules
