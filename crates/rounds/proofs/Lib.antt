@@ -1,3 +1,4 @@
+pub mod Fronts
 pub mod RoundsLaws
 pub mod RunsLaws
 pub mod PlacesLaws
@@ -10,3 +11,5 @@ pub mod SizeLaws
 pub mod PreorderLaws
 pub mod RankLaws
 pub mod RankRules
+pub mod MarksLaws
+pub mod ChangesLaws

@@ -10,6 +10,7 @@ use Rattle.lists.proofs.Decisions.{Decided, all-below?, among-number?}
 use Rattle.lists.proofs.Elements.{among-append-left, among-append-right}
 use Rattle.lists.proofs.Pigeonhole.{covers-length}
 use Rattle.rounds.specs.Rounds.{Covers, Round, Splits, Completes, Blocks, Unique, Exists, Closes, Extends, Grows, Monotone, Adds, BlocksComplete, TurnsOfRounds, RoundsBelowTurns, Laws}
+use Rattle.rounds.proofs.Fronts.{fronts, push-cases}
 
 pub covers? : (n : ℕ) (xs : List ℕ) → Decided (Covers n xs)
 covers? n xs = all-below? (λ v. Among v xs) (λ v. among-number? v xs) n
@@ -40,12 +41,6 @@ exactly n k xs r s = (k, r, omega arith, s)
 pub completes-fewer : (n j k : ℕ) (xs : List ℕ) → j ≤ k → Completes n k xs → Completes n j xs
 completes-fewer n j k xs l c = (c .0, c .1, omega (arith, c .2), c .3)
 
--- two fronts of one list: the first is a front of the second, or the second a proper front of the first
-fronts : (a b c d : List ℕ) → a ++ b ≡ c ++ d → ((e : List ℕ) × (a ++ e ≡ c) × (b ≡ e ++ d)) ⊎ ((x : ℕ) × (e : List ℕ) × (c ++ (x ∷ e) ≡ a))
-fronts [] b c d q = inl (c, refl, q)
-fronts (x ∷ a) b [] d q = inr (x, a, refl)
-fronts (x ∷ a) b (y ∷ c) d q = elim (fronts a b c d (cc)) [ inl t ↦ inl (t .0, (let e = t .1 in cc), t .2) | inr t ↦ inr (t .0, t .1, (let e = t .2 in cc)) ]
-
 first-round-same : (n : ℕ) (a b c d : List ℕ) → a ++ b ≡ c ++ d → Round n a → Round n c → (a ≡ c) × (b ≡ d)
 first-round-same n a b c d q ra rc = elim (fronts a b c d q) [ inl t ↦ left (t .0) (t .1) (t .2) | inr t ↦ absurd (ra .tight c (t .0) (t .1) (t .2) (rc .covers)) ]
   where
@@ -64,9 +59,7 @@ unique n (suc k) (suc j) xs r q s t =
 
 -- a proper front of xs and one more is a front of xs
 front-of-push : (front : List ℕ) (x : ℕ) (back xs : List ℕ) (v : ℕ) → front ++ (x ∷ back) ≡ xs ++ (v ∷ []) → (e : List ℕ) × (front ++ e ≡ xs)
-front-of-push [] x back xs v q = (xs, refl)
-front-of-push (y ∷ front) x back [] v q = let e = ap length q in let f = length-append front (x ∷ back) in absurd (omega arith)
-front-of-push (y ∷ front) x back (z ∷ xs) v q = let t = front-of-push front x back xs v (cc) in (t .0, cc)
+front-of-push front x back xs v q = elim (push-cases front x back xs v q) [ inl t ↦ ([], append-nil front ∙ t .0) | inr t ↦ (x ∷ t .0, t .1) ]
 
 -- the split of one more turn, under the first round
 push-later : (n k j : ℕ) (xs r q : List ℕ) (v : ℕ) (s : Splits n (suc k) xs r) → Splits n j (s .1 ++ (v ∷ [])) q → Splits n (suc j) (xs ++ (v ∷ [])) q

@@ -2,3 +2,5 @@ pub mod Rounds
 pub mod Runs
 pub mod Forest
 pub mod Preorder
+pub mod Marks
+pub mod Changes

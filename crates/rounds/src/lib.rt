@@ -1,7 +1,9 @@
 //! Rounds of a list of turns, runs that settle, and forests of parents; no code.
 //! Each function carries one family of laws.
 ghost use Prim.Native.Nat.{ℕ};
+ghost use Rattle.rounds.specs.Changes as C;
 ghost use Rattle.rounds.specs.Forest as F;
+ghost use Rattle.rounds.specs.Marks as M;
 ghost use Rattle.rounds.specs.Preorder as P;
 ghost use Rattle.rounds.specs.Rounds as R;
 ghost use Rattle.rounds.specs.Runs as U;
@@ -41,6 +43,20 @@ pub fn forests_stand() -> u8
 /// Carries the laws of preorder listings and ranks.
 pub fn preorders_stand() -> u8
     ensures { λ _. ⌜ P.Laws ⌝ }
+{
+    0
+}
+
+/// Carries the laws of the counter of rounds.
+pub fn counters_stand() -> u8
+    ensures { λ _. ⌜ M.Laws ⌝ }
+{
+    0
+}
+
+/// Carries the laws of the last turn that changed the state.
+pub fn changes_stand<X: Turns>() -> u8
+    ensures { λ _. ⌜ C.Laws (X·Turns .State) (X·Turns .step) (X·Turns .holds) ⌝ }
 {
     0
 }
