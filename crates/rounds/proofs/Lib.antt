@@ -13,3 +13,4 @@ pub mod RankLaws
 pub mod RankRules
 pub mod MarksLaws
 pub mod ChangesLaws
+pub mod PatienceLaws

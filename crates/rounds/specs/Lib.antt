@@ -4,3 +4,4 @@ pub mod Forest
 pub mod Preorder
 pub mod Marks
 pub mod Changes
+pub mod Patience

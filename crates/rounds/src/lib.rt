@@ -4,6 +4,7 @@ ghost use Prim.Native.Nat.{ℕ};
 ghost use Rattle.rounds.specs.Changes as C;
 ghost use Rattle.rounds.specs.Forest as F;
 ghost use Rattle.rounds.specs.Marks as M;
+ghost use Rattle.rounds.specs.Patience as W;
 ghost use Rattle.rounds.specs.Preorder as P;
 ghost use Rattle.rounds.specs.Rounds as R;
 ghost use Rattle.rounds.specs.Runs as U;
@@ -57,6 +58,13 @@ pub fn counters_stand() -> u8
 /// Carries the laws of the last turn that changed the state.
 pub fn changes_stand<X: Turns>() -> u8
     ensures { λ _. ⌜ C.Laws (X·Turns .State) (X·Turns .step) (X·Turns .holds) ⌝ }
+{
+    0
+}
+
+/// Carries the laws of turns that leave no node out for long.
+pub fn patience_stands() -> u8
+    ensures { λ _. ⌜ W.Laws ⌝ }
 {
     0
 }
