@@ -1,14 +1,14 @@
 use mathlib.Core.Path.{_≡_, refl, sym, ap, _∙_, subst}
-use mathlib.Core.Logic.{_⊎_, inl, inr}
+use mathlib.Core.Logic.{inl, inr}
 use mathlib.Core.List.{List, [], _∷_, _++_, append-assoc, append-nil}
-use Prim.Native.Nat.{ℕ, zero, suc, _+_, _≤_, _<_}
+use Prim.Native.Nat.{ℕ, zero, suc, _<_}
 use native.Mathlib.Omega.{arith}
 use lib.ListN.{length, length-append}
 use Rattle.std.proofs.shelf.Tests.{cases-lt, cases-order}
 use Rattle.lists.proofs.Elements.{among-append-right}
 use Rattle.rounds.specs.Rounds.{Splits}
 use Rattle.rounds.specs.Runs.{Below}
-use Rattle.rounds.specs.Changes.{Changes, Quiet, Latest, Last, LastFirst, LastStays, LastNow, LastUnique, LastLow, Laws}
+use Rattle.rounds.specs.Changes.{Changes, Quiet, Latest, LastFirst, LastStays, LastNow, LastUnique, LastLow, Laws}
 use Rattle.rounds.proofs.Fronts.{fronts, push-cases}
 use Rattle.rounds.proofs.RoundsLaws.{unique}
 use Rattle.rounds.proofs.RunsLaws.{below-left}

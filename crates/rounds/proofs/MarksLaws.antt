@@ -1,6 +1,6 @@
 use mathlib.Core.Path.{_≡_, refl, sym, ap, _∙_, subst}
 use mathlib.Core.Logic.{_⊎_, inl, inr}
-use mathlib.Core.Bool.{Bool, true, false, cond, _||_, _&&_}
+use mathlib.Core.Bool.{Bool, true, false, cond, _&&_}
 use mathlib.Core.List.{List, [], _∷_, _++_}
 use Prim.Native.Nat.{ℕ, zero, suc, _+_, _≤_, _<_}
 use native.Mathlib.Omega.{arith}
@@ -10,10 +10,9 @@ use Rattle.std.proofs.shelf.Tests.{cases-eq, or-cases, or-left, or-right, and-p
 use Rattle.lists.specs.Members.{Among}
 use Rattle.lists.proofs.Elements.{among-append-left, among-push, among-push-cases}
 use Rattle.rounds.specs.Forest.{Counted, none, pass, fail}
-use Rattle.rounds.specs.Rounds.{Covers, Splits}
-use Rattle.rounds.specs.Marks.{marked, allMarked, countMarked, Marks, Tracks, Counts, TracksFirst, TracksNext, MarksAll, MarksCount, AllCount, Laws}
+use Rattle.rounds.specs.Rounds.{Splits}
+use Rattle.rounds.specs.Marks.{marked, allMarked, countMarked, Marks, Tracks, TracksFirst, TracksNext, MarksAll, MarksCount, AllCount, Laws}
 use Rattle.rounds.proofs.RoundsLaws.{nil-covers-none, closes, extends}
-use Rattle.rounds.proofs.Counting.{counted-le}
 
 all-each : (n : ℕ) (f : ℕ → Bool) → allMarked n f ≡ true → (w : ℕ) → w < n → f w ≡ true
 all-each zero f t w l = absurd (omega arith)

@@ -1,6 +1,6 @@
-use mathlib.Core.Path.{_≡_, refl, sym, ap, _∙_, subst}
+use mathlib.Core.Path.{_≡_, sym, ap, _∙_, subst}
 use mathlib.Core.Logic.{inl, inr}
-use mathlib.Core.List.{List, [], _∷_, _++_, append-assoc}
+use mathlib.Core.List.{List, [], _∷_, _++_}
 use Prim.Native.Nat.{ℕ, zero, suc, _+_, _*_, _≤_, _<_}
 use native.Mathlib.Nat.{mul-zero, mul-suc}
 use native.Mathlib.Omega.{arith}
@@ -8,7 +8,7 @@ use lib.ListN.{length, take, drop, length-take, length-drop, take-append-drop}
 use Rattle.std.proofs.shelf.Lists.{drop-take, take-take}
 use Rattle.std.proofs.shelf.Tests.{cases-eq}
 use Rattle.lists.specs.Members.{Among}
-use Rattle.rounds.specs.Rounds.{Covers, Completes, Blocks}
+use Rattle.rounds.specs.Rounds.{Completes, Blocks}
 use Rattle.rounds.specs.Patience.{Patient, DueWithin, Due, DuePatient, PatientCompletes, Laws}
 use Rattle.rounds.proofs.RoundsLaws.{blocks, monotone}
 

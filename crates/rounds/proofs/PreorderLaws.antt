@@ -1,18 +1,15 @@
-use mathlib.Core.Path.{_≡_, refl, sym, ap, _∙_, subst}
-use mathlib.Core.Logic.{_⊎_, inl, inr}
-use mathlib.Core.List.{List, [], _∷_, _++_, append-assoc, append-nil}
+use mathlib.Core.Path.{_≡_, sym, ap, _∙_, subst}
+use mathlib.Core.Logic.{inl, inr}
+use mathlib.Core.List.{List, _∷_}
 use Prim.Native.Nat.{ℕ, zero, suc, _+_, _≤_, _<_}
 use native.Mathlib.Omega.{arith}
-use lib.ListN.{length, getD, length-append}
+use lib.ListN.{length}
 use Rattle.std.specs.Joined.{joined}
-use Rattle.std.proofs.shelf.Lists.{getD-at}
 use Rattle.lists.specs.Members.{Among, Once}
-use Rattle.lists.proofs.Elements.{among-getD, among-append-left, among-append-right, once-places}
-use Rattle.lists.proofs.Pigeonhole.{once-below, covers-length}
-use Rattle.rounds.specs.Forest.{up, In, Depths, Sized, sumOver, Lists}
-use Rattle.rounds.specs.Preorder.{Ordered, Rooted, levels, preorder, Ranked, Unfolds, ListsSubtree, ListsOnce, ListsSize, ListsAll, RankPlace, RankEach, Laws}
+use Rattle.rounds.specs.Forest.{up, In, Depths, Sized, sumOver}
+use Rattle.rounds.specs.Preorder.{Ordered, levels, preorder}
 use Rattle.rounds.proofs.Sums.{sum-cong, child-all}
-use Rattle.rounds.proofs.Joins.{joined-append, joined-cong, among-joined, among-joined-cases, once-joined, length-joined}
+use Rattle.rounds.proofs.Joins.{joined-cong, among-joined, among-joined-cases, once-joined, length-joined}
 use Rattle.rounds.proofs.ChainLaws.{depths-low, by-children}
 use Rattle.rounds.proofs.SizeLaws.{up-last, up-depth, in-self, in-parent, under-depth, one-child, size-sum}
 

@@ -1,21 +1,19 @@
-use mathlib.Core.Path.{_≡_, refl, sym, ap, _∙_, subst}
+use mathlib.Core.Path.{_≡_, sym, ap, _∙_, subst}
 use mathlib.Core.List.{List, [], _∷_, _++_, append-assoc, append-nil}
-use Prim.Native.Nat.{ℕ, zero, suc, _+_, _≤_, _<_}
+use Prim.Native.Nat.{ℕ, suc, _+_, _≤_, _<_}
 use native.Mathlib.Omega.{arith}
-use lib.ListN.{length, getD, length-append}
+use lib.ListN.{length, length-append}
 use Rattle.std.specs.Joined.{joined}
-use Rattle.std.proofs.shelf.Lists.{getD-at}
 use Rattle.lists.specs.Members.{Among}
-use Rattle.lists.proofs.Elements.{among-append-left, among-getD, once-places}
-use Rattle.lists.proofs.Pigeonhole.{once-below, covers-length}
-use Rattle.rounds.specs.Forest.{In, Depths, Sized, sumOver}
-use Rattle.rounds.specs.Preorder.{Ordered, Rooted, preorder, Ranked}
+use Rattle.lists.proofs.Elements.{among-append-left}
+use Rattle.lists.proofs.Pigeonhole.{once-below}
+use Rattle.rounds.specs.Forest.{Depths, Sized, sumOver}
+use Rattle.rounds.specs.Preorder.{Ordered, preorder, Ranked}
 use Rattle.rounds.proofs.Sums.{sum-cong}
 use Rattle.rounds.proofs.Kept.{among-split}
 use Rattle.rounds.proofs.Joins.{joined-append, length-joined}
 use Rattle.rounds.proofs.ChainLaws.{by-parents}
-use Rattle.rounds.proofs.SizeLaws.{up-first}
-use Rattle.rounds.proofs.PreorderLaws.{opens, listed-in, in-listed, listed-once, listed-size}
+use Rattle.rounds.proofs.PreorderLaws.{opens, listed-in, listed-once, listed-size}
 
 module _ (n : ℕ) (par d : ℕ → ℕ) (children : ℕ → List ℕ) (deep : Depths n par d) (order : Ordered n par children) where
   abbrev listing : ℕ → List ℕ

@@ -1,7 +1,6 @@
-use mathlib.Core.Path.{_≡_, refl, sym, ap, _∙_, subst}
-use mathlib.Core.List.{List, [], _∷_, _++_}
-use mathlib.Core.Bool.{Bool, true, cond}
-use Prim.Native.Nat.{ℕ, suc, _+_, _<_, min}
+use mathlib.Core.Path.{_≡_, sym, ap, _∙_, subst}
+use mathlib.Core.List.{List, _∷_, _++_}
+use Prim.Native.Nat.{ℕ, suc, _+_, _<_}
 use native.Mathlib.Omega.{arith}
 use lib.Dec.{eqb}
 use lib.ListN.{length, getD, length-append}
@@ -13,13 +12,13 @@ use Rattle.std.proofs.shelf.Tests.{eqb-true, eq-eqb, cond-true}
 use Rattle.lists.specs.Members.{Among, Once}
 use Rattle.lists.proofs.Elements.{among-getD, once-places}
 use Rattle.lists.proofs.Pigeonhole.{covers-length}
-use Rattle.rounds.specs.Forest.{In, Depths, Sized, Lists, sumOver, childSum}
-use Rattle.rounds.specs.Preorder.{Ordered, Rooted, preorder, Ranked, childrenOf, RankRule, NearOrdered, RuleRanked, Laws}
+use Rattle.rounds.specs.Forest.{In, Depths, Sized, sumOver}
+use Rattle.rounds.specs.Preorder.{Ordered, Rooted, preorder, Ranked, childrenOf, NearOrdered, RuleRanked, Laws}
 use Rattle.rounds.proofs.Kept.{among-kept, among-kept-cases, once-kept, sum-kept, among-split, split-unique}
 use Rattle.rounds.proofs.ChainLaws.{by-parents}
 use Rattle.rounds.proofs.SizeLaws.{up-first}
 use Rattle.rounds.proofs.PreorderLaws.{opens, listed-in, in-listed, listed-once, listed-size}
-use Rattle.rounds.proofs.RankLaws.{listed-low, Stands, stands, ranked-all}
+use Rattle.rounds.proofs.RankLaws.{listed-low, stands, ranked-all}
 
 module _ (n : ℕ) (par d : ℕ → ℕ) (children : ℕ → List ℕ) (root : ℕ) (deep : Depths n par d) (order : Ordered n par children) (rooted : Rooted n par root) where
   in-root : (v : ℕ) → v < n → In par root v

@@ -9,7 +9,7 @@ use Rattle.lists.specs.Members.{Among}
 use Rattle.lists.proofs.Decisions.{Decided, all-below?, among-number?}
 use Rattle.lists.proofs.Elements.{among-append-left, among-append-right}
 use Rattle.lists.proofs.Pigeonhole.{covers-length}
-use Rattle.rounds.specs.Rounds.{Covers, Round, Splits, Completes, Blocks, Unique, Exists, Closes, Extends, Grows, Monotone, Adds, BlocksComplete, TurnsOfRounds, RoundsBelowTurns, Laws}
+use Rattle.rounds.specs.Rounds.{Covers, Round, Splits, Completes, Unique, Exists, Closes, Extends, Grows, Monotone, Adds, BlocksComplete, TurnsOfRounds, RoundsBelowTurns, Laws}
 use Rattle.rounds.proofs.Fronts.{fronts, push-cases}
 
 pub covers? : (n : ℕ) (xs : List ℕ) → Decided (Covers n xs)

@@ -1,11 +1,10 @@
-use mathlib.Core.Path.{_≡_, refl, sym, ap, _∙_, subst}
-use mathlib.Core.Logic.{_⊎_, inl, inr}
+use mathlib.Core.Path.{refl, sym, ap, _∙_, subst}
+use mathlib.Core.Logic.{inl, inr}
 use mathlib.Core.List.{List, [], _∷_, _++_}
-use Prim.Native.Nat.{ℕ, zero, suc, _+_, _≤_, _<_}
+use Prim.Native.Nat.{ℕ, zero, suc, _+_, _≤_}
 use native.Mathlib.Omega.{arith}
 use Rattle.lists.specs.Members.{Among}
 use Rattle.lists.proofs.Elements.{among-append-left, among-append-right}
-use Rattle.rounds.specs.Rounds.{Completes}
 use Rattle.rounds.specs.Runs.{run, Below, Kept, From, RunAppend, KeptRun, Compose, OneRound, Waves, Induction, Rests}
 use Rattle.rounds.proofs.RoundsLaws.{adds, exactly, completes-covers, completes-fewer}
 

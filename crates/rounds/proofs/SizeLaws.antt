@@ -1,13 +1,12 @@
 use mathlib.Core.Path.{_≡_, refl, sym, ap, _∙_, subst}
-use mathlib.Core.Logic.{_⊎_, inl, inr}
+use mathlib.Core.Logic.{inl, inr}
 use mathlib.Core.Bool.{Bool, true, false, cond}
-use mathlib.Core.List.{List, [], _∷_}
-use Prim.Native.Nat.{ℕ, zero, suc, _+_, _≤_, _<_, min}
+use mathlib.Core.List.{List}
+use Prim.Native.Nat.{ℕ, zero, suc, _+_, _≤_, _<_}
 use native.Mathlib.Omega.{arith}
 use lib.Dec.{eqb}
 use Rattle.std.proofs.shelf.Tests.{cases-eq}
-use Rattle.lists.specs.Members.{Among}
-use Rattle.lists.proofs.Decisions.{Decided, below?, both?, lt?}
+use Rattle.lists.proofs.Decisions.{Decided, below?, lt?}
 use Rattle.rounds.specs.Forest.{above, up, In, Depths, Counted, Sized, sumOver, childSum, Lists, SizesExist, SizeUnique, SizeLow, SizeSum, SizeRule, Laws}
 use Rattle.rounds.proofs.Sums.{sum-zero, sum-one, child-share, other-share, child-cong, child-add}
 use Rattle.rounds.proofs.Counting.{counted-unique, counted-le, counted-map, score, score-yes, score-no, tally, tally-counted, tally-equal}

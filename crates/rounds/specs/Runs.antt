@@ -2,7 +2,7 @@
 -- A turn of the node v makes the state s the state step v s.
 use mathlib.Core.Path.{_≡_}
 use mathlib.Core.List.{List, [], _∷_, _++_}
-use Prim.Native.Nat.{ℕ, zero, suc, _+_, _≤_, _<_}
+use Prim.Native.Nat.{ℕ, suc, _+_, _≤_, _<_}
 use Rattle.lists.specs.Members.{Among}
 use Rattle.rounds.specs.Rounds.{Completes}
 
