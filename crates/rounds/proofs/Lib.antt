@@ -14,3 +14,4 @@ pub mod RankRules
 pub mod MarksLaws
 pub mod ChangesLaws
 pub mod PatienceLaws
+pub mod ViewsLaws

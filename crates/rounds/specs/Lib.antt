@@ -5,3 +5,4 @@ pub mod Preorder
 pub mod Marks
 pub mod Changes
 pub mod Patience
+pub mod Views

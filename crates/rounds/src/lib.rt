@@ -8,8 +8,10 @@ ghost use Rattle.rounds.specs.Patience as W;
 ghost use Rattle.rounds.specs.Preorder as P;
 ghost use Rattle.rounds.specs.Rounds as R;
 ghost use Rattle.rounds.specs.Runs as U;
+ghost use Rattle.rounds.specs.Views as V;
 
-/// Any states, any turns and any predicates, so that the principles of runs speak of all.
+/// Any states, turns and predicates, and any view of the states with turns of its own,
+/// so that what is said of runs holds of all.
 pub trait Turns: Sized {
     ghost State: { Type 0 };
 
@@ -18,6 +20,14 @@ pub trait Turns: Sized {
     ghost holds: { ℕ → State → Type 0 };
 
     ghost good: { ℕ → ℕ → State → Type 0 };
+
+    ghost Seen: { Type 0 };
+
+    ghost acts: { ℕ → Seen → Seen };
+
+    ghost view: { State → Seen };
+
+    ghost shows: { ℕ → Seen → Type 0 };
 }
 
 /// Carries the laws of rounds.
@@ -65,6 +75,13 @@ pub fn changes_stand<X: Turns>() -> u8
 /// Carries the laws of turns that leave no node out for long.
 pub fn patience_stands() -> u8
     ensures { λ _. ⌜ W.Laws ⌝ }
+{
+    0
+}
+
+/// Carries the laws of views of a state.
+pub fn views_stand<X: Turns>() -> u8
+    ensures { λ _. ⌜ V.Laws (X·Turns .State) (X·Turns .Seen) (X·Turns .step) (X·Turns .acts) (X·Turns .view) (X·Turns .holds) (X·Turns .shows) ⌝ }
 {
     0
 }
