@@ -1,3 +1,4 @@
+-- Chains of parents, heights and depths, and induction along them.
 use mathlib.Core.Path.{_≡_, refl, sym, ap, _∙_, subst}
 use mathlib.Core.Logic.{inl, inr}
 use mathlib.Core.List.{List, [], _∷_}

@@ -1,3 +1,4 @@
+-- Turns with dues cover by blocks, and blocks complete rounds.
 use mathlib.Core.Path.{_≡_, sym, ap, _∙_, subst}
 use mathlib.Core.Logic.{inl, inr}
 use mathlib.Core.List.{List, [], _∷_, _++_}

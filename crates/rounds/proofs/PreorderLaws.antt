@@ -1,3 +1,4 @@
+-- The preorder listing of a subtree: what it lists, once, and how long it is.
 use mathlib.Core.Path.{_≡_, sym, ap, _∙_, subst}
 use mathlib.Core.Logic.{inl, inr}
 use mathlib.Core.List.{List, _∷_}

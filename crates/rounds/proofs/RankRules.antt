@@ -1,3 +1,4 @@
+-- Ranks as places in a tree's listing, and the rule that is cut off at n.
 use mathlib.Core.Path.{_≡_, sym, ap, _∙_, subst}
 use mathlib.Core.List.{List, _∷_, _++_}
 use Prim.Native.Nat.{ℕ, suc, _+_, _<_}

@@ -1,3 +1,4 @@
+-- Ways up a forest, and the sizes of subtrees.
 use mathlib.Core.Path.{_≡_, refl, sym, ap, _∙_, subst}
 use mathlib.Core.Logic.{inl, inr}
 use mathlib.Core.Bool.{Bool, true, false, cond}

@@ -10,24 +10,27 @@ ghost use Rattle.rounds.specs.Rounds as R;
 ghost use Rattle.rounds.specs.Runs as U;
 ghost use Rattle.rounds.specs.Views as V;
 
-/// Any states, turns and predicates, and any view of the states with turns of its own,
+/// Any states with any turns, and any view of them with turns of its own,
 /// so that what is said of runs holds of all.
 pub trait Turns: Sized {
+    // the states, and what a turn of a node makes of one
     ghost State: { Type 0 };
 
     ghost step: { ℕ → State → State };
-
+    // predicates of a state, and of a node in it
     ghost holds: { ℕ → State → Type 0 };
 
     ghost good: { ℕ → ℕ → State → Type 0 };
-
+    // what is seen of a state, and what a turn makes of that
     ghost Seen: { Type 0 };
-
-    ghost acts: { ℕ → Seen → Seen };
 
     ghost view: { State → Seen };
 
+    ghost acts: { ℕ → Seen → Seen };
+    // predicates of what is seen, alone and with the state
     ghost shows: { ℕ → Seen → Type 0 };
+
+    ghost over: { Seen → State → Type 0 };
 }
 
 /// Carries the laws of rounds.
@@ -81,7 +84,7 @@ pub fn patience_stands() -> u8
 
 /// Carries the laws of views of a state.
 pub fn views_stand<X: Turns>() -> u8
-    ensures { λ _. ⌜ V.Laws (X·Turns .State) (X·Turns .Seen) (X·Turns .step) (X·Turns .acts) (X·Turns .view) (X·Turns .holds) (X·Turns .shows) ⌝ }
+    ensures { λ _. ⌜ V.Laws (X·Turns .State) (X·Turns .Seen) (X·Turns .step) (X·Turns .acts) (X·Turns .view) (X·Turns .holds) (X·Turns .shows) (X·Turns .over) ⌝ }
 {
     0
 }
