@@ -13,23 +13,31 @@ ghost use Rattle.rounds.specs.Views as V;
 /// Any states with any turns, and any view of them with turns of its own,
 /// so that what is said of runs holds of all.
 pub trait Turns: Sized {
-    // the states, and what a turn of a node makes of one
+    // the states
     ghost State: { Type 0 };
 
+    // what a turn of a node makes of a state
     ghost step: { ℕ → State → State };
-    // predicates of a state, and of a node in it
+
+    // predicates of a state
     ghost holds: { ℕ → State → Type 0 };
 
+    // predicates of a node in a state
     ghost good: { ℕ → ℕ → State → Type 0 };
-    // what is seen of a state, and what a turn makes of that
+
+    // what is seen of states
     ghost Seen: { Type 0 };
 
+    // what is seen of a state
     ghost view: { State → Seen };
 
+    // what a turn of a node makes of what is seen
     ghost acts: { ℕ → Seen → Seen };
-    // predicates of what is seen, alone and with the state
+
+    // predicates of what is seen
     ghost shows: { ℕ → Seen → Type 0 };
 
+    // a predicate of a state over what is seen
     ghost over: { Seen → State → Type 0 };
 }
 
