@@ -9,6 +9,7 @@ pub mod Kept
 pub mod ChainLaws
 pub mod SizeLaws
 pub mod PreorderLaws
+pub mod RanksExist
 pub mod RankLaws
 pub mod RankRules
 pub mod MarksLaws

@@ -19,6 +19,7 @@ use Rattle.rounds.proofs.Kept.{among-kept, among-kept-cases, once-kept, sum-ke
 use Rattle.rounds.proofs.ChainLaws.{by-parents}
 use Rattle.rounds.proofs.SizeLaws.{up-first}
 use Rattle.rounds.proofs.PreorderLaws.{opens, listed-in, in-listed, listed-once, listed-size}
+use Rattle.rounds.proofs.RanksExist.{ranks-exist, rank-unique}
 use Rattle.rounds.proofs.RankLaws.{listed-low, stands, ranked-all}
 
 module _ (n : ℕ) (par d : ℕ → ℕ) (children : ℕ → List ℕ) (root : ℕ) (deep : Depths n par d) (order : Ordered n par children) (rooted : Rooted n par root) where
@@ -86,6 +87,8 @@ laws = record {
   all = λ n par d children root deep order rooted. (listed-length n par d children root deep order rooted, λ v l. listed-all n par d children root deep order rooted v l);
   place = λ n par d size rank children root deep order s rooted ranked v l. rank-place n par d children root deep order rooted size rank s ranked v l;
   each = λ n par d size rank children root deep order s rooted ranked k l. rank-each n par d children root deep order rooted size rank s ranked k l;
+  exist = ranks-exist;
+  unique = rank-unique;
   near = near-ordered;
   rule = rule-ranked;
 }

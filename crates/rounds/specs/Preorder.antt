@@ -73,6 +73,14 @@ RankPlace = (n : ℕ) (par d size rank : ℕ → ℕ) (children : ℕ → List �
 abbrev pub RankEach : Type 0
 RankEach = (n : ℕ) (par d size rank : ℕ → ℕ) (children : ℕ → List ℕ) (root : ℕ) → Depths n par d → Ordered n par children → Sized n par size → Rooted n par root → Ranked n par children size rank → (k : ℕ) → k < n → (v : ℕ) × (v < n) × (rank v ≡ k) × ((u : ℕ) → u < n → rank u ≡ k → u ≡ v)
 
+-- there are such ranks
+abbrev pub RanksExist : Type 0
+RanksExist = (n : ℕ) (par d size : ℕ → ℕ) (children : ℕ → List ℕ) → Depths n par d → Ordered n par children → (rank : ℕ → ℕ) × Ranked n par children size rank
+
+-- and no others
+abbrev pub RankUnique : Type 0
+RankUnique = (n : ℕ) (par d size f g : ℕ → ℕ) (children : ℕ → List ℕ) → Depths n par d → Ordered n par children → Ranked n par children size f → Ranked n par children size g → (v : ℕ) → v < n → f v ≡ g v
+
 -- where near v lists at least the children of v, they come in the order of near v
 abbrev pub NearOrdered : Type 0
 NearOrdered = (n : ℕ) (par : ℕ → ℕ) (near : ℕ → List ℕ) → ((v : ℕ) → v < n → Lists n par v (near v)) → Ordered n par (childrenOf par near)
@@ -90,5 +98,7 @@ pub record Laws : Type 0 where
   pub all : ListsAll
   pub place : RankPlace
   pub each : RankEach
+  pub exist : RanksExist
+  pub unique : RankUnique
   pub near : NearOrdered
   pub rule : RuleRanked
