@@ -14,7 +14,7 @@ use Rattle.rounds.proofs.Sums.{sum-cong}
 use Rattle.rounds.proofs.Kept.{among-split}
 use Rattle.rounds.proofs.Joins.{joined-append, length-joined}
 use Rattle.rounds.proofs.ChainLaws.{by-parents}
-use Rattle.rounds.proofs.PreorderLaws.{opens, listed-in, listed-once, listed-size}
+use Rattle.rounds.proofs.PreorderLaws.{listing-opens, listed-in, listed-once, listed-size}
 
 module _ (n : ℕ) (par d : ℕ → ℕ) (children : ℕ → List ℕ) (deep : Depths n par d) (order : Ordered n par children) where
   abbrev listing : ℕ → List ℕ
@@ -24,8 +24,8 @@ module _ (n : ℕ) (par d : ℕ → ℕ) (children : ℕ → List ℕ) (deep : D
   listed-low v l = once-below n (listing v) (listed-once n par d children deep order v l) (λ u m. listed-in n par d children deep order v l u m .0)
 
   -- a listing from one of the children on
-  opens-at : (w v : ℕ) (earlier later : List ℕ) → w < n → children w ≡ earlier ++ (v ∷ later) → listing w ≡ w ∷ (joined listing earlier ++ (listing v ++ joined listing later))
-  opens-at w v earlier later l e = opens n par d children deep order w l ∙ ap (λ z. w ∷ joined listing z) e ∙ ap (λ z. w ∷ z) (joined-append listing earlier (v ∷ later))
+  listing-opens-at : (w v : ℕ) (earlier later : List ℕ) → w < n → children w ≡ earlier ++ (v ∷ later) → listing w ≡ w ∷ (joined listing earlier ++ (listing v ++ joined listing later))
+  listing-opens-at w v earlier later l e = listing-opens n par d children deep order w l ∙ ap (λ z. w ∷ joined listing z) e ∙ ap (λ z. w ∷ z) (joined-append listing earlier (v ∷ later))
 
   module _ (size rank : ℕ → ℕ) (counts : Sized n par size)
       (top : (v : ℕ) → v < n → par v ≡ 0 → rank v ≡ 0)
@@ -47,7 +47,7 @@ module _ (n : ℕ) (par d : ℕ → ℕ) (children : ℕ → List ℕ) (deep : D
     child-stands : (v w : ℕ) (earlier later : List ℕ) → w < n → children w ≡ earlier ++ (v ∷ later) → (s : Stands w) → (length (s .before ++ (w ∷ joined listing earlier)) ≡ rank w + 1 + sumOver size earlier) × (listing (s .end) ≡ (s .before ++ (w ∷ joined listing earlier)) ++ (listing v ++ (joined listing later ++ s .after)))
     child-stands v w earlier later l e s = (
       (let a = length-append (s .before) (w ∷ joined listing earlier) in let b = earlier-length w l earlier (v ∷ later) e in omega (arith, s .place)),
-      s .whole ∙ ap (λ z. s .before ++ (z ++ s .after)) (opens-at w v earlier later l e) ∙ simp append-assoc,
+      s .whole ∙ ap (λ z. s .before ++ (z ++ s .after)) (listing-opens-at w v earlier later l e) ∙ simp append-assoc,
     )
 
     -- a child's place is below n
@@ -56,7 +56,7 @@ module _ (n : ℕ) (par d : ℕ → ℕ) (children : ℕ → List ℕ) (deep : D
         let t = child-stands v w earlier later m e s in
         let a = ap length (t .1) ∙ length-append (s .before ++ (w ∷ joined listing earlier)) (listing v ++ (joined listing later ++ s .after)) in
         let b = length-append (listing v) (joined listing later ++ s .after) in
-        let c = ap length (opens n par d children deep order v l) in
+        let c = ap length (listing-opens n par d children deep order v l) in
         omega (arith, t .0, listed-low (s .end) (s .node))
 
     pub stands : (v : ℕ) → v < n → Stands v

@@ -18,7 +18,7 @@ use Rattle.rounds.specs.Preorder.{Ordered, Rooted, preorder, Ranked, childrenO
 use Rattle.rounds.proofs.Kept.{among-kept, among-kept-cases, once-kept, sum-kept, among-split, split-unique}
 use Rattle.rounds.proofs.ChainLaws.{by-parents}
 use Rattle.rounds.proofs.SizeLaws.{up-first}
-use Rattle.rounds.proofs.PreorderLaws.{opens, listed-in, in-listed, listed-once, listed-size}
+use Rattle.rounds.proofs.PreorderLaws.{listing-opens, listed-in, in-listed, listed-once, listed-size}
 use Rattle.rounds.proofs.RanksExist.{ranks-exist, rank-unique}
 use Rattle.rounds.proofs.RankLaws.{listed-low, stands, ranked-all}
 
@@ -40,7 +40,7 @@ module _ (n : ℕ) (par d : ℕ → ℕ) (children : ℕ → List ℕ) (root : �
     rank-place v l =
         let s = stands n par d children deep order size rank counts (ranked .top) (λ v w earlier later l m e q _. ranked .next v w earlier later l m e q) v l in
         let rest = joined (preorder n children) (children v) ++ s .after in
-        let whole : all ≡ s .before ++ (v ∷ rest) = ap (preorder n children) (sym (rooted .only (s .end) (s .node) (s .last))) ∙ s .whole ∙ ap (λ z. s .before ++ (z ++ s .after)) (opens n par d children deep order v l) in
+        let whole : all ≡ s .before ++ (v ∷ rest) = ap (preorder n children) (sym (rooted .only (s .end) (s .node) (s .last))) ∙ s .whole ∙ ap (λ z. s .before ++ (z ++ s .after)) (listing-opens n par d children deep order v l) in
         let len = ap length whole ∙ length-append (s .before) (v ∷ rest) in
         (omega (arith, s .place, listed-length), ap (λ z. getD z (rank v) 0) whole ∙ getD-at (s .before) v rest 0 (rank v) (s .place))
 
@@ -80,7 +80,7 @@ rule-ranked n par d size rank near deep lists counts rule = ranked-all n par d (
 
 pub laws : Laws
 laws = record {
-  unfolds = λ n par d children deep order v l. opens n par d children deep order v l;
+  unfolds = λ n par d children deep order v l. listing-opens n par d children deep order v l;
   subtree = λ n par d children deep order v u l. (λ m. listed-in n par d children deep order v l u m, λ m t. in-listed n par d children deep order u m (t .0) v l (t .1));
   once = λ n par d children deep order v l. listed-once n par d children deep order v l;
   size = λ n par d size children deep order s v l. listed-size n par d children deep order size s v l;

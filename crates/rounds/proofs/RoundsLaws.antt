@@ -36,8 +36,8 @@ pub completes-covers : (n k : ℕ) (xs : List ℕ) → Completes n (suc k) xs �
 completes-covers n k xs (zero, r, l, s) = absurd (omega arith)
 completes-covers n k xs (suc j, r, l, s) = splits-covers n j xs r s
 
-pub exactly : (n k : ℕ) (xs r : List ℕ) → Splits n k xs r → Completes n k xs
-exactly n k xs r s = (k, r, omega arith, s)
+pub splits-completes : (n k : ℕ) (xs r : List ℕ) → Splits n k xs r → Completes n k xs
+splits-completes n k xs r s = (k, r, omega arith, s)
 
 pub completes-fewer : (n j k : ℕ) (xs : List ℕ) → j ≤ k → Completes n k xs → Completes n j xs
 completes-fewer n j k xs l c = (c .0, c .1, omega (arith, c .2), c .3)
@@ -89,14 +89,14 @@ further n k xs r [] l s = inl (rw (append-nil xs, append-nil r) s)
 further n k xs r (v ∷ ys) l s = rw (← append-assoc xs (v ∷ []) ys, ← append-assoc r (v ∷ []) ys) (elim (grows n k xs r v l s) [ inl t ↦ further n k (xs ++ (v ∷ [])) (r ++ (v ∷ [])) ys l t | inr t ↦ inr (done (further n (suc k) (xs ++ (v ∷ [])) [] ys l t)) ])
   where
     done : Splits n (suc k) ((xs ++ (v ∷ [])) ++ ys) ys ⊎ Completes n (suc (suc k)) ((xs ++ (v ∷ [])) ++ ys) → Completes n (suc k) ((xs ++ (v ∷ [])) ++ ys)
-    done (inl t) = exactly n (suc k) ((xs ++ (v ∷ [])) ++ ys) ys t
+    done (inl t) = splits-completes n (suc k) ((xs ++ (v ∷ [])) ++ ys) ys t
     done (inr t) = completes-fewer n (suc k) (suc (suc k)) ((xs ++ (v ∷ [])) ++ ys) (omega arith) t
 
 pub monotone : Monotone
 monotone n k xs ys l c = elim (further n (c .0) xs (c .1) ys l (c .3)) [ inl t ↦ (c .0, c .1 ++ ys, c .2, t) | inr t ↦ completes-fewer n k (suc (c .0)) (xs ++ ys) (omega (arith, c .2)) t ]
 
 pub exists : Exists
-exists n xs l = let t = monotone n 0 [] xs l (exactly n 0 [] [] (refl, nil-covers-none n l)) in (t .0, t .1, t .3)
+exists n xs l = let t = monotone n 0 [] xs l (splits-completes n 0 [] [] (refl, nil-covers-none n l)) in (t .0, t .1, t .3)
 
 adds-at : (n k j m : ℕ) (xs r : List ℕ) → 0 < n → k + m ≤ j → Splits n j xs r → (front : List ℕ) × (back : List ℕ) × (front ++ back ≡ xs) × Splits n k front [] × Completes n m back
 adds-at n zero j m xs r l h s = ([], xs, refl, (refl, nil-covers-none n l), (j, r, omega arith, s))
@@ -123,11 +123,11 @@ splits-length n (suc k) xs r s =
     let q = length-append (s .0) (s .1) in
     omega (arith, mul-suc n k)
 
-pub turns : TurnsOfRounds
-turns n k xs c = let t = splits-length n (c .0) xs (c .1) (c .3) in omega (arith, mul-le-mul-left n (c .2))
+pub turns-of-rounds : TurnsOfRounds
+turns-of-rounds n k xs c = let t = splits-length n (c .0) xs (c .1) (c .3) in omega (arith, mul-le-mul-left n (c .2))
 
-pub few : RoundsBelowTurns
-few n k xs l c = let t = turns n k xs c in let m : 1 ≤ n = omega arith in omega (arith, mul-le-mul-right k m)
+pub rounds-below-turns : RoundsBelowTurns
+rounds-below-turns n k xs l c = let t = turns-of-rounds n k xs c in let m : 1 ≤ n = omega arith in omega (arith, mul-le-mul-right k m)
 
 pub laws : Laws
-laws = record { unique = unique; exists = exists; closes = closes; extends = extends; grows = grows; monotone = monotone; adds = adds; blocks = blocks; turns = turns; few = few }
+laws = record { unique = unique; exists = exists; closes = closes; extends = extends; grows = grows; monotone = monotone; adds = adds; blocks = blocks; turnsOfRounds = turns-of-rounds; roundsBelowTurns = rounds-below-turns }

@@ -7,7 +7,7 @@ use native.Mathlib.Omega.{arith}
 use Rattle.lists.specs.Members.{Among}
 use Rattle.lists.proofs.Elements.{among-append-left, among-append-right}
 use Rattle.rounds.specs.Runs.{run, Below, Kept, From, RunAppend, KeptRun, Compose, Both, OneRound, Waves, Induction, Rests}
-use Rattle.rounds.proofs.RoundsLaws.{adds, exactly, completes-covers, completes-fewer}
+use Rattle.rounds.proofs.RoundsLaws.{adds, splits-completes, completes-covers, completes-fewer}
 
 pub below-left : (n : ℕ) (xs ys : List ℕ) → Below n (xs ++ ys) → Below n xs
 below-left n xs ys h v m = h v (among-append-left v xs ys m)
@@ -38,7 +38,7 @@ module _ (S : Type 0) (step : ℕ → S → S) where
   compose P Q R n b c l first then s ts p bel comp =
       let t = adds n b c ts l comp in
       let bt : Below n (t .0 ++ t .1) = subst (Below n) (sym (t .2)) bel in
-      let q = first s (t .0) p (below-left n (t .0) (t .1) bt) (exactly n b (t .0) [] (t .3)) in
+      let q = first s (t .0) p (below-left n (t .0) (t .1) bt) (splits-completes n b (t .0) [] (t .3)) in
       let e = ap (λ z. run step z s) (sym (t .2)) ∙ run-append (t .0) (t .1) s in
       subst R (sym e) (then (run step (t .0) s) (t .1) q (below-right n (t .0) (t .1) bt) (t .4))
 
