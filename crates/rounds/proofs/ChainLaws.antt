@@ -1,7 +1,8 @@
+-- Chains of parents, heights and depths, and induction along them.
 use mathlib.Core.Path.{_≡_, refl, sym, ap, _∙_, subst}
-use mathlib.Core.Logic.{_⊎_, inl, inr}
+use mathlib.Core.Logic.{inl, inr}
 use mathlib.Core.List.{List, [], _∷_}
-use Prim.Native.Nat.{ℕ, zero, suc, _≤_, _<_}
+use Prim.Native.Nat.{ℕ, zero, suc, _+_, _≤_, _<_}
 use native.Mathlib.Omega.{arith}
 use lib.ListN.{length}
 use Rattle.std.proofs.shelf.Tests.{cases-lt}
@@ -32,24 +33,34 @@ tall-unique n par h g s t = let a = below h g s t in let b = below g h t s in om
     below : (h g : ℕ) → Tall n par h → Tall n par g → h ≤ g
     below h g s t = let c = t .low (s .high .0) (s .high .1) in omega (arith, chain-unique par h (c .0) (s .high .0) (s .high .2) (c .2), c .1)
 
-module _ (n : ℕ) (par d : ℕ → ℕ) (deep : Depths n par d) where
-  -- one link fewer at the parent
-  chain-on : (v k : ℕ) → v < n → d v ≡ k → (p : ℕ) → par v ≡ p → ((w j : ℕ) → w < n → k ≡ suc j → d w ≡ j → Chain par j w) → Chain par k v
-  chain-on v k l e zero q next = subst (λ z. Chain par z v) (sym (deep .top v l q) ∙ e) q
-  chain-on v k l e (suc w) q next = let t = deep .link v w l q in let f : k ≡ suc (d w) = omega (arith, t .1) in subst (λ z. Chain par z v) (sym f) (w, q, next w (d w) (t .0) f refl)
+-- what holds of nodes with no parent, and of a node once it holds of its parent, holds of every node
+pub by-parents : (n : ℕ) (par d : ℕ → ℕ) → Depths n par d → (P : ℕ → Type 0) → ((v : ℕ) → v < n → par v ≡ 0 → P v) → ((v w : ℕ) → v < n → w < n → par v ≡ suc w → P w → P v) → (v : ℕ) → v < n → P v
+by-parents n par d deep P top next v l = go (suc (d v)) v l (omega arith)
+  where
+    at : (v : ℕ) → v < n → (p : ℕ) → par v ≡ p → ((w : ℕ) → w < n → d v ≡ suc (d w) → P w) → P v
+    at v l zero e rec = top v l e
+    at v l (suc w) e rec = let t = deep .link v w l e in next v w l (t .0) e (rec w (t .0) (t .1))
 
-  chain-of : (k v : ℕ) → v < n → d v ≡ k → Chain par k v
-  chain-of zero v l e = chain-on v 0 l e (par v) refl (λ w j m f g. absurd (omega arith))
-  chain-of (suc k) v l e = chain-on v (suc k) l e (par v) refl (λ w j m f g. let x : k ≡ j = omega arith in subst (λ z. Chain par z w) x (chain-of k w m (omega arith)))
+    go : (k v : ℕ) → v < n → d v < k → P v
+    go zero v l h = absurd (omega arith)
+    go (suc k) v l h = at v l (par v) refl (λ w m e. go k w m (omega arith))
 
 pub depths-chain : DepthsChain
-depths-chain n par d deep v l = chain-of n par d deep (d v) v l refl
+depths-chain n par d deep = by-parents n par d deep (λ v. Chain par (d v) v) (λ v l e. subst (λ k. Chain par k v) (sym (deep .top v l e)) e) (λ v w l m e c. subst (λ k. Chain par k v) (sym (deep .link v w l e .1)) (w, e, c))
 
 pub depths-inside : (n : ℕ) (par d : ℕ → ℕ) → Depths n par d → Inside n par
 depths-inside n par d deep v w l e = deep .link v w l e .0
 
 pub depths-low : (n : ℕ) (par d : ℕ → ℕ) → Depths n par d → (v : ℕ) → v < n → d v < n
 depths-low n par d deep v l = chain-short n par (d v) v (depths-inside n par d deep) l (depths-chain n par d deep v l)
+
+-- what holds of a node once it holds of its children, holds of every node
+pub by-children : (n : ℕ) (par d : ℕ → ℕ) → Depths n par d → (P : ℕ → Type 0) → ((v : ℕ) → v < n → ((c : ℕ) → c < n → par c ≡ suc v → P c) → P v) → (v : ℕ) → v < n → P v
+by-children n par d deep P step v l = go n v l (omega arith)
+  where
+    go : (k v : ℕ) → v < n → n ≤ d v + k → P v
+    go zero v l h = absurd (omega (arith, depths-low n par d deep v l))
+    go (suc k) v l h = step v l (λ c m e. go k c m (omega (arith, deep .link c v m e .1)))
 
 pub depths-tall : DepthsTall
 depths-tall n par d h deep g = record {

@@ -1,8 +1,8 @@
 -- Lists that are joined from the lists of others.
 use mathlib.Core.Path.{_≡_, refl, sym, ap, _∙_, subst}
-use mathlib.Core.Logic.{_⊎_, inl, inr}
+use mathlib.Core.Logic.{inl, inr}
 use mathlib.Core.List.{List, [], _∷_, _++_, append-assoc}
-use Prim.Native.Nat.{ℕ, _+_}
+use Prim.Native.Nat.{ℕ}
 use native.Mathlib.Omega.{arith}
 use lib.ListN.{length, length-append}
 use Rattle.std.specs.Joined.{joined}
@@ -37,9 +37,3 @@ once-joined f (x ∷ xs) o h same =
 pub length-joined : {Y : Type 0} (f : ℕ → List Y) (xs : List ℕ) → length (joined f xs) ≡ sumOver (λ x. length (f x)) xs
 length-joined f [] = refl
 length-joined f (x ∷ xs) = let a = length-append (f x) (joined f xs) in let b = length-joined f xs in omega arith
-
--- an element and what stands before and after it
-pub among-split : {X : Type 0} (x : X) (xs : List X) → Among x xs → (earlier : List X) × (later : List X) × (xs ≡ earlier ++ (x ∷ later))
-among-split x [] m = absurd m
-among-split x (y ∷ xs) (inl e) = ([], xs, ap (λ z. z ∷ xs) (sym e))
-among-split x (y ∷ xs) (inr m) = let t = among-split x xs m in (y ∷ t .0, t .1, ap (λ z. y ∷ z) (t .2))

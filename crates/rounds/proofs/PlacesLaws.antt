@@ -1,10 +1,11 @@
+-- Nodes that settle by their places: the places below k are good after k rounds.
 use mathlib.Core.Path.{_≡_, sym, subst}
 use mathlib.Core.Logic.{inl, inr}
 use Prim.Native.Nat.{ℕ, suc, _≤_, _<_}
 use native.Mathlib.Omega.{arith}
 use Rattle.std.proofs.shelf.Tests.{cases-eq, cases-lt}
 use Rattle.rounds.specs.Runs.{run, Waves, GoodBelow, Placed, ByPlaces, Fixpoint, Laws}
-use Rattle.rounds.proofs.RunsLaws.{run-append, kept-run, compose, one-round, induction, rests}
+use Rattle.rounds.proofs.RunsLaws.{run-append, kept-run, compose, both, one-round, induction, rests}
 
 module _ (S : Type 0) (step : ℕ → S → S) (Ok : S → Type 0) (Good : ℕ → S → Type 0) (n h : ℕ) (place : ℕ → ℕ) (placed : Placed S step n h Ok place Good) where
   abbrev Front : ℕ → S → Type 0
@@ -44,6 +45,7 @@ laws S step holds good = record {
   append = run-append S step;
   keeps = λ i. kept-run S step (holds i);
   compose = λ i j k. compose S step (holds i) (holds j) (holds k);
+  both = λ i j k. both S step (holds i) (holds j) (holds k);
   one = λ i j. one-round S step (holds i) (holds j);
   induction = induction S step holds good;
   places = λ i j. places S step (holds i) (good j);

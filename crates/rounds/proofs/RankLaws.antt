@@ -1,97 +1,73 @@
-use mathlib.Core.Path.{_≡_, refl, sym, ap, _∙_, subst}
+-- Where the listing of a node stands in that of the node above it.
+use mathlib.Core.Path.{_≡_, sym, ap, _∙_, subst}
 use mathlib.Core.List.{List, [], _∷_, _++_, append-assoc, append-nil}
-use Prim.Native.Nat.{ℕ, zero, suc, _+_, _≤_, _<_}
+use Prim.Native.Nat.{ℕ, suc, _+_, _≤_, _<_}
 use native.Mathlib.Omega.{arith}
-use lib.ListN.{length, getD, length-append}
+use lib.ListN.{length, length-append}
 use Rattle.std.specs.Joined.{joined}
-use Rattle.std.proofs.shelf.Lists.{getD-at}
 use Rattle.lists.specs.Members.{Among}
-use Rattle.lists.proofs.Elements.{among-append-left, among-getD, once-places}
-use Rattle.lists.proofs.Pigeonhole.{once-below, covers-length}
-use Rattle.rounds.specs.Forest.{above, up, In, Depths, Sized, sumOver}
-use Rattle.rounds.specs.Preorder.{Ordered, Rooted, preorder, Ranked, Unfolds, ListsSubtree, ListsOnce, ListsSize, ListsAll, RankPlace, RankEach, Laws}
+use Rattle.lists.proofs.Elements.{among-append-left}
+use Rattle.lists.proofs.Pigeonhole.{once-below}
+use Rattle.rounds.specs.Forest.{Depths, Sized, sumOver}
+use Rattle.rounds.specs.Preorder.{Ordered, preorder, Ranked}
 use Rattle.rounds.proofs.Sums.{sum-cong}
-use Rattle.rounds.proofs.Joins.{joined-append, length-joined, among-split}
-use Rattle.rounds.proofs.PreorderLaws.{opens, listed-in, in-listed, listed-once, listed-size}
+use Rattle.rounds.proofs.Kept.{among-split}
+use Rattle.rounds.proofs.Joins.{joined-append, length-joined}
+use Rattle.rounds.proofs.ChainLaws.{by-parents}
+use Rattle.rounds.proofs.PreorderLaws.{listing-opens, listed-in, listed-once, listed-size}
 
--- the first link of a way up
-up-first : (par : ℕ → ℕ) (k v w : ℕ) → par v ≡ suc w → up par (suc k) v ≡ up par k w
-up-first par zero v w e = e
-up-first par (suc k) v w e = ap (above par) (up-first par k v w e)
+module _ (n : ℕ) (par d : ℕ → ℕ) (children : ℕ → List ℕ) (deep : Depths n par d) (order : Ordered n par children) where
+  abbrev listing : ℕ → List ℕ
+  listing = preorder n children
 
--- what holds of nodes with no parent, and of a node once it holds of its parent, holds of every node
-by-parents : (n : ℕ) (par d : ℕ → ℕ) → Depths n par d → (P : ℕ → Type 0) → ((v : ℕ) → v < n → par v ≡ 0 → P v) → ((v w : ℕ) → v < n → w < n → par v ≡ suc w → P w → P v) → (v : ℕ) → v < n → P v
-by-parents n par d deep P top next v l = go (suc (d v)) v l (omega arith)
-  where
-    at : (v : ℕ) → v < n → (p : ℕ) → par v ≡ p → ((w : ℕ) → w < n → d v ≡ suc (d w) → P w) → P v
-    at v l zero e rec = top v l e
-    at v l (suc w) e rec = let t = deep .link v w l e in next v w l (t .0) e (rec w (t .0) (t .1))
+  pub listed-low : (v : ℕ) → v < n → length (listing v) ≤ n
+  listed-low v l = once-below n (listing v) (listed-once n par d children deep order v l) (λ u m. listed-in n par d children deep order v l u m .0)
 
-    go : (k v : ℕ) → v < n → d v < k → P v
-    go zero v l h = absurd (omega arith)
-    go (suc k) v l h = at v l (par v) refl (λ w m e. go k w m (omega arith))
+  -- a listing from one of the children on
+  listing-opens-at : (w v : ℕ) (earlier later : List ℕ) → w < n → children w ≡ earlier ++ (v ∷ later) → listing w ≡ w ∷ (joined listing earlier ++ (listing v ++ joined listing later))
+  listing-opens-at w v earlier later l e = listing-opens n par d children deep order w l ∙ ap (λ z. w ∷ joined listing z) e ∙ ap (λ z. w ∷ z) (joined-append listing earlier (v ∷ later))
 
-module _ (n : ℕ) (par d : ℕ → ℕ) (children : ℕ → List ℕ) (root : ℕ) (deep : Depths n par d) (order : Ordered n par children) (rooted : Rooted n par root) where
-  in-root : (v : ℕ) → v < n → In par root v
-  in-root = by-parents n par d deep (In par root) (λ v l e. (0, ap suc (rooted .only v l e))) (λ v w l m e t. (suc (t .0), up-first par (t .0) v w e ∙ t .1))
+  module _ (size rank : ℕ → ℕ) (counts : Sized n par size)
+      (top : (v : ℕ) → v < n → par v ≡ 0 → rank v ≡ 0)
+      (next : (v w : ℕ) (earlier later : List ℕ) → v < n → w < n → par v ≡ suc w → children w ≡ earlier ++ (v ∷ later) → rank w + 1 + sumOver size earlier < n → rank v ≡ rank w + 1 + sumOver size earlier) where
+    -- the listing of v stands at the rank of v in that of the node where its chain ends
+    pub record Stands (v : ℕ) : Type 0 where
+      pub end : ℕ
+      pub node : end < n
+      pub last : par end ≡ 0
+      pub before : List ℕ
+      pub after : List ℕ
+      pub place : length before ≡ rank v
+      pub whole : listing end ≡ before ++ (listing v ++ after)
 
-  pub listed-all : (v : ℕ) → v < n → Among v (preorder n children root)
-  listed-all v l = let t = in-root v l in in-listed n par d children deep order v l (t .0) root (rooted .node) (t .1)
+    earlier-length : (w : ℕ) → w < n → (earlier later : List ℕ) → children w ≡ earlier ++ later → length (joined listing earlier) ≡ sumOver size earlier
+    earlier-length w l earlier later e = length-joined listing earlier ∙ sum-cong (λ c. length (listing c)) size earlier (λ c m. listed-size n par d children deep order size counts c (order .child w c l (subst (Among c) (sym e) (among-append-left c earlier later m)) .0))
 
-  pub listed-length : length (preorder n children root) ≡ n
-  listed-length =
-      let a = once-below n (preorder n children root) (listed-once n par d children deep order root (rooted .node)) (λ u m. listed-in n par d children deep order root (rooted .node) u m .0) in
-      let b = covers-length n (preorder n children root) listed-all in
-      omega arith
+    -- where the listing of a child stands, whatever its rank
+    child-stands : (v w : ℕ) (earlier later : List ℕ) → w < n → children w ≡ earlier ++ (v ∷ later) → (s : Stands w) → (length (s .before ++ (w ∷ joined listing earlier)) ≡ rank w + 1 + sumOver size earlier) × (listing (s .end) ≡ (s .before ++ (w ∷ joined listing earlier)) ++ (listing v ++ (joined listing later ++ s .after)))
+    child-stands v w earlier later l e s = (
+      (let a = length-append (s .before) (w ∷ joined listing earlier) in let b = earlier-length w l earlier (v ∷ later) e in omega (arith, s .place)),
+      s .whole ∙ ap (λ z. s .before ++ (z ++ s .after)) (listing-opens-at w v earlier later l e) ∙ simp append-assoc,
+    )
 
-  module _ (size rank : ℕ → ℕ) (counts : Sized n par size) (ranked : Ranked n par children size rank) where
-    -- the listing of v stands in the root's listing at the rank of v
-    abbrev Stands : ℕ → Type 0
-    Stands v = (before : List ℕ) × (after : List ℕ) × (length before ≡ rank v) × (preorder n children root ≡ before ++ (preorder n children v ++ after))
+    -- a child's place is below n
+    room : (v w : ℕ) (earlier later : List ℕ) → v < n → w < n → children w ≡ earlier ++ (v ∷ later) → Stands w → rank w + 1 + sumOver size earlier < n
+    room v w earlier later l m e s =
+        let t = child-stands v w earlier later m e s in
+        let a = ap length (t .1) ∙ length-append (s .before ++ (w ∷ joined listing earlier)) (listing v ++ (joined listing later ++ s .after)) in
+        let b = length-append (listing v) (joined listing later ++ s .after) in
+        let c = ap length (listing-opens n par d children deep order v l) in
+        omega (arith, t .0, listed-low (s .end) (s .node))
 
-    -- the listings of earlier siblings are as long as their sizes say
-    earlier-length : (w : ℕ) → w < n → (earlier later : List ℕ) → children w ≡ earlier ++ later → length (joined (preorder n children) earlier) ≡ sumOver size earlier
-    earlier-length w l earlier later e = length-joined (preorder n children) earlier ∙ sum-cong (λ c. length (preorder n children c)) size earlier (λ c m. listed-size n par d children deep order size counts c (order .child w c l (subst (Among c) (sym e) (among-append-left c earlier later m)) .0))
-
-    stands : (v : ℕ) → v < n → Stands v
-    stands = by-parents n par d deep Stands first next
+    pub stands : (v : ℕ) → v < n → Stands v
+    stands = by-parents n par d deep Stands (λ v l e. record { end = v; node = l; last = e; before = []; after = []; place = sym (top v l e); whole = sym (append-nil (listing v)) }) on
       where
-        first : (v : ℕ) → v < n → par v ≡ 0 → Stands v
-        first v l e = ([], [], sym (ranked .top v l e), ap (preorder n children) (sym (rooted .only v l e)) ∙ sym (append-nil (preorder n children v)))
+        on : (v w : ℕ) → v < n → w < n → par v ≡ suc w → Stands w → Stands v
+        on v w l m e s =
+            let c = among-split v (children w) (order .all w v m l e) in
+            let t = child-stands v w (c .0) (c .1) m (c .2) s in
+            record { end = s .end; node = s .node; last = s .last; before = s .before ++ (w ∷ joined listing (c .0)); after = joined listing (c .1) ++ s .after; place = t .0 ∙ sym (next v w (c .0) (c .1) l m e (c .2) (room v w (c .0) (c .1) l m (c .2) s)); whole = t .1 }
 
-        next : (v w : ℕ) → v < n → w < n → par v ≡ suc w → Stands w → Stands v
-        next v w l m e (before, after, size-of, whole) =
-            let s = among-split v (children w) (order .all w v m l e) in
-            let own = opens n par d children deep order w m ∙ ap (λ z. w ∷ joined (preorder n children) z) (s .2) ∙ ap (λ z. w ∷ z) (joined-append (preorder n children) (s .0) (v ∷ s .1)) in (
-              before ++ (w ∷ joined (preorder n children) (s .0)),
-              joined (preorder n children) (s .1) ++ after,
-              (let a = length-append before (w ∷ joined (preorder n children) (s .0)) in let b = earlier-length w m (s .0) (v ∷ s .1) (s .2) in let c = ranked .next v w (s .0) (s .1) l m e (s .2) in omega arith),
-              whole ∙ ap (λ z. before ++ (z ++ after)) own ∙ simp append-assoc,
-            )
-
-    pub rank-place : (v : ℕ) → v < n → (rank v < n) × (getD (preorder n children root) (rank v) 0 ≡ v)
-    rank-place v l =
-        let t = stands v l in
-        let whole : preorder n children root ≡ t .0 ++ (v ∷ (joined (preorder n children) (children v) ++ t .1)) = t .3 ∙ ap (λ z. t .0 ++ (z ++ t .1)) (opens n par d children deep order v l) in
-        let len = ap length whole ∙ length-append (t .0) (v ∷ (joined (preorder n children) (children v) ++ t .1)) in
-        (omega (arith, t .2, listed-length), ap (λ z. getD z (rank v) 0) whole ∙ getD-at (t .0) v (joined (preorder n children) (children v) ++ t .1) 0 (rank v) (t .2))
-
-    pub rank-each : (k : ℕ) → k < n → (v : ℕ) × (v < n) × (rank v ≡ k) × ((u : ℕ) → u < n → rank u ≡ k → u ≡ v)
-    rank-each k l =
-        let all = preorder n children root in
-        let v = getD all k 0 in
-        let in-all : k < length all = omega (arith, listed-length) in
-        let node = listed-in n par d children deep order root (rooted .node) v (among-getD all k 0 in-all) .0 in
-        let at = rank-place v node in
-        (v, node, once-places all (listed-once n par d children deep order root (rooted .node)) (rank v) k 0 (omega (arith, at .0, listed-length)) in-all (at .1), λ u m e. sym (rank-place u m .1) ∙ ap (λ z. getD all z 0) e)
-
-pub laws : Laws
-laws = record {
-  unfolds = λ n par d children deep order v l. opens n par d children deep order v l;
-  subtree = λ n par d children deep order v u l. (λ m. listed-in n par d children deep order v l u m, λ m t. in-listed n par d children deep order u m (t .0) v l (t .1));
-  once = λ n par d children deep order v l. listed-once n par d children deep order v l;
-  size = λ n par d size children deep order s v l. listed-size n par d children deep order size s v l;
-  all = λ n par d children root deep order rooted. (listed-length n par d children root deep order rooted, λ v l. listed-all n par d children root deep order rooted v l);
-  place = λ n par d size rank children root deep order s rooted ranked v l. rank-place n par d children root deep order rooted size rank s ranked v l;
-  each = λ n par d size rank children root deep order s rooted ranked k l. rank-each n par d children root deep order rooted size rank s ranked k l;
-}
+    -- so the rule holds with no limit
+    pub ranked-all : Ranked n par children size rank
+    ranked-all = record { top = top; next = λ v w earlier later l m e q. next v w earlier later l m e q (room v w earlier later l m q (stands w m)) }

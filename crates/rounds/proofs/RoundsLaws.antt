@@ -1,3 +1,4 @@
+-- Rounds of a list of turns: the split, and what one more turn does to it.
 use mathlib.Core.Path.{_≡_, refl, sym, ap, _∙_, subst}
 use mathlib.Core.Logic.{_⊎_, inl, inr}
 use mathlib.Core.List.{List, [], _∷_, _++_, append-assoc, append-nil}
@@ -9,7 +10,8 @@ use Rattle.lists.specs.Members.{Among}
 use Rattle.lists.proofs.Decisions.{Decided, all-below?, among-number?}
 use Rattle.lists.proofs.Elements.{among-append-left, among-append-right}
 use Rattle.lists.proofs.Pigeonhole.{covers-length}
-use Rattle.rounds.specs.Rounds.{Covers, Round, Splits, Completes, Blocks, Unique, Exists, Closes, Extends, Grows, Monotone, Adds, BlocksComplete, TurnsOfRounds, RoundsBelowTurns, Laws}
+use Rattle.rounds.specs.Rounds.{Covers, Round, Splits, Completes, Unique, Exists, Closes, Extends, Grows, Monotone, Adds, BlocksComplete, TurnsOfRounds, RoundsBelowTurns, Laws}
+use Rattle.rounds.proofs.Fronts.{fronts, push-cases}
 
 pub covers? : (n : ℕ) (xs : List ℕ) → Decided (Covers n xs)
 covers? n xs = all-below? (λ v. Among v xs) (λ v. among-number? v xs) n
@@ -34,17 +36,11 @@ pub completes-covers : (n k : ℕ) (xs : List ℕ) → Completes n (suc k) xs �
 completes-covers n k xs (zero, r, l, s) = absurd (omega arith)
 completes-covers n k xs (suc j, r, l, s) = splits-covers n j xs r s
 
-pub exactly : (n k : ℕ) (xs r : List ℕ) → Splits n k xs r → Completes n k xs
-exactly n k xs r s = (k, r, omega arith, s)
+pub splits-completes : (n k : ℕ) (xs r : List ℕ) → Splits n k xs r → Completes n k xs
+splits-completes n k xs r s = (k, r, omega arith, s)
 
 pub completes-fewer : (n j k : ℕ) (xs : List ℕ) → j ≤ k → Completes n k xs → Completes n j xs
 completes-fewer n j k xs l c = (c .0, c .1, omega (arith, c .2), c .3)
-
--- two fronts of one list: the first is a front of the second, or the second a proper front of the first
-fronts : (a b c d : List ℕ) → a ++ b ≡ c ++ d → ((e : List ℕ) × (a ++ e ≡ c) × (b ≡ e ++ d)) ⊎ ((x : ℕ) × (e : List ℕ) × (c ++ (x ∷ e) ≡ a))
-fronts [] b c d q = inl (c, refl, q)
-fronts (x ∷ a) b [] d q = inr (x, a, refl)
-fronts (x ∷ a) b (y ∷ c) d q = elim (fronts a b c d (cc)) [ inl t ↦ inl (t .0, (let e = t .1 in cc), t .2) | inr t ↦ inr (t .0, t .1, (let e = t .2 in cc)) ]
 
 first-round-same : (n : ℕ) (a b c d : List ℕ) → a ++ b ≡ c ++ d → Round n a → Round n c → (a ≡ c) × (b ≡ d)
 first-round-same n a b c d q ra rc = elim (fronts a b c d q) [ inl t ↦ left (t .0) (t .1) (t .2) | inr t ↦ absurd (ra .tight c (t .0) (t .1) (t .2) (rc .covers)) ]
@@ -64,9 +60,7 @@ unique n (suc k) (suc j) xs r q s t =
 
 -- a proper front of xs and one more is a front of xs
 front-of-push : (front : List ℕ) (x : ℕ) (back xs : List ℕ) (v : ℕ) → front ++ (x ∷ back) ≡ xs ++ (v ∷ []) → (e : List ℕ) × (front ++ e ≡ xs)
-front-of-push [] x back xs v q = (xs, refl)
-front-of-push (y ∷ front) x back [] v q = let e = ap length q in let f = length-append front (x ∷ back) in absurd (omega arith)
-front-of-push (y ∷ front) x back (z ∷ xs) v q = let t = front-of-push front x back xs v (cc) in (t .0, cc)
+front-of-push front x back xs v q = elim (push-cases front x back xs v q) [ inl t ↦ ([], append-nil front ∙ t .0) | inr t ↦ (x ∷ t .0, t .1) ]
 
 -- the split of one more turn, under the first round
 push-later : (n k j : ℕ) (xs r q : List ℕ) (v : ℕ) (s : Splits n (suc k) xs r) → Splits n j (s .1 ++ (v ∷ [])) q → Splits n (suc j) (xs ++ (v ∷ [])) q
@@ -95,14 +89,14 @@ further n k xs r [] l s = inl (rw (append-nil xs, append-nil r) s)
 further n k xs r (v ∷ ys) l s = rw (← append-assoc xs (v ∷ []) ys, ← append-assoc r (v ∷ []) ys) (elim (grows n k xs r v l s) [ inl t ↦ further n k (xs ++ (v ∷ [])) (r ++ (v ∷ [])) ys l t | inr t ↦ inr (done (further n (suc k) (xs ++ (v ∷ [])) [] ys l t)) ])
   where
     done : Splits n (suc k) ((xs ++ (v ∷ [])) ++ ys) ys ⊎ Completes n (suc (suc k)) ((xs ++ (v ∷ [])) ++ ys) → Completes n (suc k) ((xs ++ (v ∷ [])) ++ ys)
-    done (inl t) = exactly n (suc k) ((xs ++ (v ∷ [])) ++ ys) ys t
+    done (inl t) = splits-completes n (suc k) ((xs ++ (v ∷ [])) ++ ys) ys t
     done (inr t) = completes-fewer n (suc k) (suc (suc k)) ((xs ++ (v ∷ [])) ++ ys) (omega arith) t
 
 pub monotone : Monotone
 monotone n k xs ys l c = elim (further n (c .0) xs (c .1) ys l (c .3)) [ inl t ↦ (c .0, c .1 ++ ys, c .2, t) | inr t ↦ completes-fewer n k (suc (c .0)) (xs ++ ys) (omega (arith, c .2)) t ]
 
 pub exists : Exists
-exists n xs l = let t = monotone n 0 [] xs l (exactly n 0 [] [] (refl, nil-covers-none n l)) in (t .0, t .1, t .3)
+exists n xs l = let t = monotone n 0 [] xs l (splits-completes n 0 [] [] (refl, nil-covers-none n l)) in (t .0, t .1, t .3)
 
 adds-at : (n k j m : ℕ) (xs r : List ℕ) → 0 < n → k + m ≤ j → Splits n j xs r → (front : List ℕ) × (back : List ℕ) × (front ++ back ≡ xs) × Splits n k front [] × Completes n m back
 adds-at n zero j m xs r l h s = ([], xs, refl, (refl, nil-covers-none n l), (j, r, omega arith, s))
@@ -129,11 +123,11 @@ splits-length n (suc k) xs r s =
     let q = length-append (s .0) (s .1) in
     omega (arith, mul-suc n k)
 
-pub turns : TurnsOfRounds
-turns n k xs c = let t = splits-length n (c .0) xs (c .1) (c .3) in omega (arith, mul-le-mul-left n (c .2))
+pub turns-of-rounds : TurnsOfRounds
+turns-of-rounds n k xs c = let t = splits-length n (c .0) xs (c .1) (c .3) in omega (arith, mul-le-mul-left n (c .2))
 
-pub few : RoundsBelowTurns
-few n k xs l c = let t = turns n k xs c in let m : 1 ≤ n = omega arith in omega (arith, mul-le-mul-right k m)
+pub rounds-below-turns : RoundsBelowTurns
+rounds-below-turns n k xs l c = let t = turns-of-rounds n k xs c in let m : 1 ≤ n = omega arith in omega (arith, mul-le-mul-right k m)
 
 pub laws : Laws
-laws = record { unique = unique; exists = exists; closes = closes; extends = extends; grows = grows; monotone = monotone; adds = adds; blocks = blocks; turns = turns; few = few }
+laws = record { unique = unique; exists = exists; closes = closes; extends = extends; grows = grows; monotone = monotone; adds = adds; blocks = blocks; turnsOfRounds = turns-of-rounds; roundsBelowTurns = rounds-below-turns }

@@ -1,13 +1,13 @@
-use mathlib.Core.Path.{_≡_, refl, sym, ap, _∙_, subst}
-use mathlib.Core.Logic.{_⊎_, inl, inr}
+-- Runs of turns, one after the other and round by round.
+use mathlib.Core.Path.{refl, sym, ap, _∙_, subst}
+use mathlib.Core.Logic.{inl, inr}
 use mathlib.Core.List.{List, [], _∷_, _++_}
-use Prim.Native.Nat.{ℕ, zero, suc, _+_, _≤_, _<_}
+use Prim.Native.Nat.{ℕ, zero, suc, _+_, _≤_, max}
 use native.Mathlib.Omega.{arith}
 use Rattle.lists.specs.Members.{Among}
 use Rattle.lists.proofs.Elements.{among-append-left, among-append-right}
-use Rattle.rounds.specs.Rounds.{Completes}
-use Rattle.rounds.specs.Runs.{run, Below, Kept, From, RunAppend, KeptRun, Compose, OneRound, Waves, Induction, Rests}
-use Rattle.rounds.proofs.RoundsLaws.{adds, exactly, completes-covers, completes-fewer}
+use Rattle.rounds.specs.Runs.{run, Below, Kept, From, RunAppend, KeptRun, Compose, Both, OneRound, Waves, Induction, Rests}
+use Rattle.rounds.proofs.RoundsLaws.{adds, splits-completes, completes-covers, completes-fewer}
 
 pub below-left : (n : ℕ) (xs ys : List ℕ) → Below n (xs ++ ys) → Below n xs
 below-left n xs ys h v m = h v (among-append-left v xs ys m)
@@ -38,9 +38,12 @@ module _ (S : Type 0) (step : ℕ → S → S) where
   compose P Q R n b c l first then s ts p bel comp =
       let t = adds n b c ts l comp in
       let bt : Below n (t .0 ++ t .1) = subst (Below n) (sym (t .2)) bel in
-      let q = first s (t .0) p (below-left n (t .0) (t .1) bt) (exactly n b (t .0) [] (t .3)) in
+      let q = first s (t .0) p (below-left n (t .0) (t .1) bt) (splits-completes n b (t .0) [] (t .3)) in
       let e = ap (λ z. run step z s) (sym (t .2)) ∙ run-append (t .0) (t .1) s in
       subst R (sym e) (then (run step (t .0) s) (t .1) q (below-right n (t .0) (t .1) bt) (t .4))
+
+  pub both : (P Q R : S → Type 0) → Both S step P Q R
+  both P Q R n b c f g s ts p bel k = (from-more P Q n b (max b c) (omega arith) f s ts p bel k, from-more P R n c (max b c) (omega arith) g s ts p bel k)
 
   -- once v had its turn, it is good
   good-after : (P G : S → Type 0) (n v : ℕ) → Kept step n P → ((s : S) → P s → G (step v s)) → Kept step n (λ s. P s × G s) → (ts : List ℕ) (s : S) → Below n ts → P s → Among v ts → G (run step ts s)

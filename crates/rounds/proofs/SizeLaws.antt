@@ -1,17 +1,17 @@
+-- Ways up a forest, and the sizes of subtrees.
 use mathlib.Core.Path.{_≡_, refl, sym, ap, _∙_, subst}
-use mathlib.Core.Logic.{_⊎_, inl, inr}
+use mathlib.Core.Logic.{inl, inr}
 use mathlib.Core.Bool.{Bool, true, false, cond}
-use mathlib.Core.List.{List, [], _∷_}
+use mathlib.Core.List.{List}
 use Prim.Native.Nat.{ℕ, zero, suc, _+_, _≤_, _<_}
 use native.Mathlib.Omega.{arith}
 use lib.Dec.{eqb}
 use Rattle.std.proofs.shelf.Tests.{cases-eq}
-use Rattle.lists.specs.Members.{Among}
-use Rattle.lists.proofs.Decisions.{Decided, below?, both?, lt?}
-use Rattle.rounds.specs.Forest.{above, up, In, Depths, Counted, Sized, sumOver, childSum, Lists, SizesExist, SizeUnique, SizeLow, SizeSum, Laws}
+use Rattle.lists.proofs.Decisions.{Decided, below?, lt?}
+use Rattle.rounds.specs.Forest.{above, up, In, Depths, Counted, Sized, sumOver, childSum, Lists, SizesExist, SizeUnique, SizeLow, SizeSum, SizeRule, Laws}
 use Rattle.rounds.proofs.Sums.{sum-zero, sum-one, child-share, other-share, child-cong, child-add}
 use Rattle.rounds.proofs.Counting.{counted-unique, counted-le, counted-map, score, score-yes, score-no, tally, tally-counted, tally-equal}
-use Rattle.rounds.proofs.ChainLaws.{chain-unique, chain-short, tall-unique, depths-chain, depths-tall, depths-greatest, tall-depths}
+use Rattle.rounds.proofs.ChainLaws.{chain-unique, chain-short, tall-unique, depths-chain, depths-tall, depths-greatest, tall-depths, by-children}
 
 -- the last link of a way up
 pub up-last : (par : ℕ → ℕ) (k u v : ℕ) → up par (suc k) u ≡ suc v → (w : ℕ) × (up par k u ≡ suc w) × (par w ≡ suc v)
@@ -20,6 +20,11 @@ up-last par k u v e = go (up par k u) refl e
     go : (x : ℕ) → up par k u ≡ x → above par x ≡ suc v → (w : ℕ) × (up par k u ≡ suc w) × (par w ≡ suc v)
     go zero q h = absurd (omega arith)
     go (suc w) q h = (w, q, h)
+
+-- the first link of a way up
+pub up-first : (par : ℕ → ℕ) (k v w : ℕ) → par v ≡ suc w → up par (suc k) v ≡ up par k w
+up-first par zero v w e = e
+up-first par (suc k) v w e = ap (above par) (up-first par k v w e)
 
 pub in-self : (par : ℕ → ℕ) (v : ℕ) → In par v v
 in-self par v = (0, refl)
@@ -124,6 +129,19 @@ size-sum n par d f deep s v xs l ls =
     let same : (c : ℕ) → c < n → size n par d deep c ≡ f c = λ c m. size-unique n par (size n par d deep) f (size-counts n par d deep) s c m in
     sym (same v l) ∙ size-adds n par d deep v xs l ls ∙ ap (λ z. 1 + z) (child-cong par (size n par d deep) f v xs (λ c m _. same c (ls .nodes c m)))
 
+pub size-rule : SizeRule
+size-rule n par d f near deep lists rule v l = subst (Counted (In par v) n) (sym (by-children n par d deep (λ v. f v ≡ full v) step v l)) (size-counts n par d deep v l)
+  where
+    full : ℕ → ℕ
+    full v = size n par d deep v
+
+    step : (v : ℕ) → v < n → ((c : ℕ) → c < n → par c ≡ suc v → f c ≡ full c) → f v ≡ full v
+    step v l rec =
+        let a = child-cong par f full v (near v) (λ c m e. rec c (lists v l .nodes c m) e) in
+        let b = size-adds n par d deep v (near v) l (lists v l) in
+        let c = size-low n par full (size-counts n par d deep) v l in
+        omega (arith, rule v l, a, b, c)
+
 pub laws : Laws
 laws = record {
   chainUnique = chain-unique;
@@ -137,4 +155,5 @@ laws = record {
   sizeUnique = size-unique;
   sizeLow = size-low;
   sizeSum = size-sum;
+  sizeRule = size-rule;
 }

@@ -3,7 +3,7 @@
 use mathlib.Core.Path.{_≡_}
 use mathlib.Core.Bool.{cond}
 use mathlib.Core.List.{List, [], _∷_}
-use Prim.Native.Nat.{ℕ, zero, suc, _+_, _≤_, _<_}
+use Prim.Native.Nat.{ℕ, zero, suc, _+_, _≤_, _<_, min}
 use lib.Dec.{eqb}
 use Rattle.lists.specs.Members.{Among, Once}
 
@@ -113,6 +113,10 @@ SizeLow = (n : ℕ) (par size : ℕ → ℕ) → Sized n par size → (v : ℕ) 
 abbrev pub SizeSum : Type 0
 SizeSum = (n : ℕ) (par d size : ℕ → ℕ) → Depths n par d → Sized n par size → (v : ℕ) (xs : List ℕ) → v < n → Lists n par v xs → size v ≡ 1 + childSum par size v xs
 
+-- and what meets that rule, cut off at n, is the size: near v lists at least the children of v
+abbrev pub SizeRule : Type 0
+SizeRule = (n : ℕ) (par d f : ℕ → ℕ) (near : ℕ → List ℕ) → Depths n par d → ((v : ℕ) → v < n → Lists n par v (near v)) → ((v : ℕ) → v < n → f v ≡ min n (1 + childSum par f v (near v))) → Sized n par f
+
 -- the laws of forests
 pub record Laws : Type 0 where
   pub chainUnique : ChainUnique
@@ -126,3 +130,4 @@ pub record Laws : Type 0 where
   pub sizeUnique : SizeUnique
   pub sizeLow : SizeLow
   pub sizeSum : SizeSum
+  pub sizeRule : SizeRule

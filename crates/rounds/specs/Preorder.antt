@@ -2,11 +2,13 @@
 -- Nodes and parents are as in Forest.
 use mathlib.Core.Path.{_≡_}
 use mathlib.Core.List.{List, [], _∷_, _++_}
-use Prim.Native.Nat.{ℕ, zero, suc, _+_, _<_}
+use Prim.Native.Nat.{ℕ, zero, suc, _+_, _<_, min}
+use lib.Dec.{eqb}
 use lib.ListN.{length, getD}
 use Rattle.std.specs.Joined.{joined}
+use Rattle.std.specs.shelf.Lists.{kept-by}
 use Rattle.lists.specs.Members.{Among, Once}
-use Rattle.rounds.specs.Forest.{In, Depths, Sized, sumOver}
+use Rattle.rounds.specs.Forest.{In, Depths, Sized, Lists, sumOver, childSum}
 
 -- children v lists the children of v, each once, in their order
 pub record Ordered (n : ℕ) (par : ℕ → ℕ) (children : ℕ → List ℕ) : Type 0 where
@@ -33,6 +35,15 @@ preorder n children v = levels children n v
 pub record Ranked (n : ℕ) (par : ℕ → ℕ) (children : ℕ → List ℕ) (size rank : ℕ → ℕ) : Type 0 where
   pub top : (v : ℕ) → v < n → par v ≡ 0 → rank v ≡ 0
   pub next : (v w : ℕ) (earlier later : List ℕ) → v < n → w < n → par v ≡ suc w → children w ≡ earlier ++ (v ∷ later) → rank v ≡ rank w + 1 + sumOver size earlier
+
+-- the children of v among the nodes near it, in the order of that list
+abbrev pub childrenOf : (ℕ → ℕ) → (ℕ → List ℕ) → ℕ → List ℕ
+childrenOf par near v = kept-by (λ c. eqb (par c) (suc v)) (near v)
+
+-- the same rule, read off the nodes near each parent and cut off at n
+pub record RankRule (n : ℕ) (par : ℕ → ℕ) (near : ℕ → List ℕ) (size rank : ℕ → ℕ) : Type 0 where
+  pub top : (v : ℕ) → v < n → par v ≡ 0 → rank v ≡ 0
+  pub next : (v w : ℕ) (earlier later : List ℕ) → v < n → w < n → par v ≡ suc w → near w ≡ earlier ++ (v ∷ later) → rank v ≡ min n (rank w + 1 + childSum par size w earlier)
 
 -- the listing of v is v, and then the whole listings of its children
 abbrev pub Unfolds : Type 0
@@ -62,6 +73,22 @@ RankPlace = (n : ℕ) (par d size rank : ℕ → ℕ) (children : ℕ → List �
 abbrev pub RankEach : Type 0
 RankEach = (n : ℕ) (par d size rank : ℕ → ℕ) (children : ℕ → List ℕ) (root : ℕ) → Depths n par d → Ordered n par children → Sized n par size → Rooted n par root → Ranked n par children size rank → (k : ℕ) → k < n → (v : ℕ) × (v < n) × (rank v ≡ k) × ((u : ℕ) → u < n → rank u ≡ k → u ≡ v)
 
+-- there are such ranks
+abbrev pub RanksExist : Type 0
+RanksExist = (n : ℕ) (par d size : ℕ → ℕ) (children : ℕ → List ℕ) → Depths n par d → Ordered n par children → (rank : ℕ → ℕ) × Ranked n par children size rank
+
+-- and no others
+abbrev pub RankUnique : Type 0
+RankUnique = (n : ℕ) (par d size f g : ℕ → ℕ) (children : ℕ → List ℕ) → Depths n par d → Ordered n par children → Ranked n par children size f → Ranked n par children size g → (v : ℕ) → v < n → f v ≡ g v
+
+-- where near v lists at least the children of v, they come in the order of near v
+abbrev pub NearOrdered : Type 0
+NearOrdered = (n : ℕ) (par : ℕ → ℕ) (near : ℕ → List ℕ) → ((v : ℕ) → v < n → Lists n par v (near v)) → Ordered n par (childrenOf par near)
+
+-- and what meets the rule cut off at n, meets the rule: no rank is cut off
+abbrev pub RuleRanked : Type 0
+RuleRanked = (n : ℕ) (par d size rank : ℕ → ℕ) (near : ℕ → List ℕ) → Depths n par d → ((v : ℕ) → v < n → Lists n par v (near v)) → Sized n par size → RankRule n par near size rank → Ranked n par (childrenOf par near) size rank
+
 -- the laws of the listing
 pub record Laws : Type 0 where
   pub unfolds : Unfolds
@@ -71,3 +98,7 @@ pub record Laws : Type 0 where
   pub all : ListsAll
   pub place : RankPlace
   pub each : RankEach
+  pub exist : RanksExist
+  pub unique : RankUnique
+  pub near : NearOrdered
+  pub rule : RuleRanked

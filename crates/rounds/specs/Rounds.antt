@@ -80,5 +80,5 @@ pub record Laws : Type 0 where
   pub monotone : Monotone
   pub adds : Adds
   pub blocks : BlocksComplete
-  pub turns : TurnsOfRounds
-  pub few : RoundsBelowTurns
+  pub turnsOfRounds : TurnsOfRounds
+  pub roundsBelowTurns : RoundsBelowTurns

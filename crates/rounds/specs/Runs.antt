@@ -2,7 +2,7 @@
 -- A turn of the node v makes the state s the state step v s.
 use mathlib.Core.Path.{_≡_}
 use mathlib.Core.List.{List, [], _∷_, _++_}
-use Prim.Native.Nat.{ℕ, zero, suc, _+_, _≤_, _<_}
+use Prim.Native.Nat.{ℕ, suc, _+_, _≤_, _<_, max}
 use Rattle.lists.specs.Members.{Among}
 use Rattle.rounds.specs.Rounds.{Completes}
 
@@ -38,6 +38,10 @@ KeptRun S step P = (n : ℕ) → Kept step n P → (ts : List ℕ) (s : S) → B
 -- b rounds to Q, and then c rounds to R
 abbrev pub Compose : (S : Type 0) → (ℕ → S → S) → (P Q R : S → Type 0) → Type 0
 Compose S step P Q R = (n b c : ℕ) → 0 < n → From step n P b Q → From step n Q c R → From step n P (b + c) R
+
+-- b rounds to Q and c rounds to R are, for the more of them, rounds to both
+abbrev pub Both : (S : Type 0) → (ℕ → S → S) → (P Q R : S → Type 0) → Type 0
+Both S step P Q R = (n b c : ℕ) → From step n P b Q → From step n P c R → From step n P (max b c) (λ s. Q s × R s)
 
 -- what v's turn makes good and no turn spoils, holds after a round
 abbrev pub OneRound : (S : Type 0) → (ℕ → S → S) → (P G : S → Type 0) → Type 0
@@ -87,6 +91,7 @@ pub record Laws (S : Type 0) (step : ℕ → S → S) (holds : ℕ → S → Typ
   pub append : RunAppend S step
   pub keeps : (i : ℕ) → KeptRun S step (holds i)
   pub compose : (i j k : ℕ) → Compose S step (holds i) (holds j) (holds k)
+  pub both : (i j k : ℕ) → Both S step (holds i) (holds j) (holds k)
   pub one : (i j : ℕ) → OneRound S step (holds i) (holds j)
   pub induction : Induction S step holds good
   pub places : (i j : ℕ) → ByPlaces S step (holds i) (good j)

@@ -1,4 +1,4 @@
-use Rattle.rounds.proofs.RankLaws.{laws}
+use Rattle.rounds.proofs.RankRules.{laws}
 use Rattle.rounds.proofs.preorders_stand.Needs as need
 
 pub returns : need.returns
