@@ -8,15 +8,16 @@ use lib.ListN.{getD, length}
 use Rattle.lists.specs.Members.{Among}
 use Rattle.graph.specs.Model.{Model, Drawn, ports, within, misses, distance, arcs-before}
 use Rattle.site.specs.declared.node.Node.{Node}
+use Rattle.site.specs.Kept.{far}
 use Rattle.site.specs.Table.{Roomy, entry, told}
 
 -- what stands for a node after k levels: its distance if it is within k, else that it was not reached
 unfoldable pub mark : Model → ℕ → ℕ → ℕ
-mark m k v = cond (within m k v) (misses m v k) 65535
+mark m k v = cond (within m k v) (misses m v k) far
 
 -- what stands for a node at the end
 unfoldable pub final : Model → ℕ → ℕ
-final m v = cond (within m (m .nodes) v) (distance m v) 65535
+final m v = cond (within m (m .nodes) v) (distance m v) far
 
 -- the list has this for each of the n nodes
 abbrev pub Each : ℕ → (ℕ → ℕ) → List ℕ → Type 0

@@ -5,6 +5,7 @@ ghost use Rattle.std.specs.Orderings.{Decides};
 ghost use Rattle.lists.specs.Members.{Among};
 ghost use Rattle.site.specs.Table.{blank, plus, told};
 use super::Node;
+use crate::limits::PORTS;
 
 impl Node {
     /// An entry with no ports.
@@ -13,7 +14,7 @@ impl Node {
     {
         Node {
             degree: 0,
-            ports: [0; 8],
+            ports: [0; PORTS],
         }
     }
 
