@@ -1,18 +1,14 @@
 -- A link that is free of refusals, entered into the table and the list.
-use mathlib.Core.Path.{_≡_, refl, sym, ap, subst, _∙_}
-use mathlib.Core.Logic.{_⊎_, inl, inr}
-use mathlib.Core.Bool.{Bool, cond}
+use mathlib.Core.Path.{_≡_, sym, ap, subst, _∙_}
+use mathlib.Core.Logic.{inl, inr}
 use mathlib.Core.List.{List, [], _∷_, _++_, map}
-use Prim.Native.Nat.{ℕ, _+_, _*_, _<_, _≤_}
+use Prim.Native.Nat.{ℕ, _<_, _≤_}
 use native.Mathlib.Omega.{arith}
-use lib.Dec.{eqb}
-use lib.ListN.{length, take, set, getD}
-use borrow.Author.Tests.{eq-eqb, ne-eqb}
-use Rattle.std.proofs.shelf.Lists.{length-map, length-set, length-push, map-push, take-more-set, getD-set-same, getD-set-other}
-use Rattle.std.proofs.shelf.Tests.{cases-eq, cases-lt, cond-true, cond-false}
+use lib.ListN.{length, set}
+use Rattle.std.proofs.shelf.Lists.{length-map, length-set, map-push, take-more-set, getD-set-same, getD-set-other}
+use Rattle.std.proofs.shelf.Tests.{cases-eq, cases-lt}
 use Rattle.std.specs.Of.Vec.{vec-items, vec-len, vec-cap}
 use Rattle.refusal.specs.Checks.{Free}
-use Rattle.lists.specs.Members.{Among}
 use Rattle.graph.specs.Model.{Model, Drawn, ports, ports-of}
 use Rattle.graph.proofs.Ports.{ports-push-first, ports-push-second, ports-push-other}
 use Rattle.graph.proofs.Growth.{drawn-push}
@@ -20,7 +16,7 @@ use Rattle.graph.proofs.Handshake.{links-room}
 use Rattle.site.specs.declared.link.Link.{Link}
 use Rattle.site.specs.declared.node.Node.{Node}
 use Rattle.site.specs.declared.builder.SiteBuilder.{SiteBuilder}
-use Rattle.site.specs.Table.{ends, entry, told, plus, Roomy, Table}
+use Rattle.site.specs.Table.{ends, entry, neighbours, plus, Roomy, Table}
 use Rattle.site.specs.Sites.{draft}
 use Rattle.site.specs.Entering.{link-checks, with-link}
 use Rattle.site.proofs.Whole.{degree-is, drawn}
@@ -48,9 +44,9 @@ links-push ls ms a b e = ap (map ends) e ∙ map-push ends ls (record { a = a; b
 
 -- one port more in an entry
 abbrev Fresh : Node → List ℕ → Type 0
-Fresh d ps = ((d .degree ≤ 8) × (length (d .ports) ≡ 8)) × (told d ≡ ps)
+Fresh d ps = ((d .degree ≤ 8) × (length (d .ports) ≡ 8)) × (neighbours d ≡ ps)
 
-fresh-plus : (d : Node) (x : ℕ) (ps : List ℕ) → d .degree < 8 → length (d .ports) ≡ 8 → told d ≡ ps → Fresh (plus d x) (ps ++ (x ∷ []))
+fresh-plus : (d : Node) (x : ℕ) (ps : List ℕ) → d .degree < 8 → length (d .ports) ≡ 8 → neighbours d ≡ ps → Fresh (plus d x) (ps ++ (x ∷ []))
 fresh-plus d x ps l r e = (
   (omega arith, length-set (d .ports) (d .degree) x ∙ r),
   take-more-set (d .ports) (d .degree) x (omega arith) ∙ ap (λ (w : List ℕ). w ++ (x ∷ [])) e,

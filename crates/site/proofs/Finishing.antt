@@ -1,24 +1,22 @@
 -- What the search, the numbers of arcs and the greatest mark make of a builder.
-use mathlib.Core.Path.{_≡_, refl, sym, ap, subst, _∙_}
-use mathlib.Core.Logic.{_⊎_, inl, inr}
-use mathlib.Core.Bool.{Bool, true, false}
+use mathlib.Core.Path.{_≡_, sym, ap, subst, _∙_}
+use mathlib.Core.Logic.{inl, inr}
+use mathlib.Core.Bool.{true}
 use mathlib.Core.List.{List}
 use Prim.Native.Nat.{ℕ, _<_, _≤_}
 use native.Mathlib.Omega.{arith}
 use lib.ListN.{length, getD, set}
-use borrow.Author.Tests.{both-ways}
 use Rattle.std.proofs.shelf.Lists.{getD-set-same, getD-set-other}
 use Rattle.std.proofs.shelf.Tests.{cases-bool, cases-eq}
 use Rattle.std.specs.Of.Vec.{vec-items, vec-len}
 use Rattle.lists.specs.Members.{Among}
-use Rattle.graph.specs.Model.{Model, Drawn, Proper, Reached, within, distance, height}
+use Rattle.graph.specs.Model.{Model, Drawn, Proper, Reached, within}
 use Rattle.graph.proofs.Drawn.{inside}
 use Rattle.graph.proofs.Distances.{within-reached, reached-within-nodes}
 use Rattle.graph.proofs.Heights.{distance-most, height-taken}
 use Rattle.site.specs.declared.node.Node.{Node}
 use Rattle.site.specs.declared.builder.SiteBuilder.{SiteBuilder}
-use Rattle.site.specs.Table.{entry, told}
-use Rattle.site.specs.Kept.{Measured, Numbered, Topped}
+use Rattle.site.specs.Kept.{Measured, Numbered, Highest}
 use Rattle.site.specs.Levels.{mark, final, Each, Sound, Drawing, Searched, Counted}
 use Rattle.site.specs.Sites.{draft}
 use Rattle.site.proofs.Marks.{mark-start, final-in, final-out, distance-small}
@@ -84,7 +82,7 @@ module _ (m : Model) (ok : Drawn m) (es : List ℕ) (top : ℕ) (len : length es
     pub all-measured : Measured m es
     all-measured v l = marks v l ∙ final-in m v (all-within v l)
 
-    pub top-height : Topped m top
+    pub top-height : Highest m top
     top-height =
         let t = height-taken m finished in
         let a = all-measured (t .0) (t .1) in

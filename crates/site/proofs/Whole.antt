@@ -10,7 +10,7 @@ use Rattle.graph.proofs.Deciding.{drawn-from, proper-from}
 use Rattle.site.specs.declared.node.Node.{Node}
 use Rattle.site.specs.declared.builder.SiteBuilder.{SiteBuilder}
 use Rattle.site.specs.declared.site.Site.{Site}
-use Rattle.site.specs.Table.{entry, told, Roomy}
+use Rattle.site.specs.Table.{entry, neighbours, Roomy}
 use Rattle.site.specs.Sites.{draft, model}
 
 -- every draft is drawn
@@ -25,6 +25,6 @@ proper s = proper-from (model s) (s .proper)
 pub entry-read : (ns : List Node) (v n : ℕ) (d : Node) → d ≡ getD ns v d → v < n → n ≡ length ns → d ≡ entry ns v
 entry-read ns v n d e l k = getD-read-under ns v n d (record { degree = 0; ports = [] }) e l k
 
--- an entry's degree is the number of ports that it tells
-pub degree-is : (ns : List Node) (n : ℕ) → Roomy ns n → (v : ℕ) → v < n → length (told (entry ns v)) ≡ entry ns v .degree
+-- an entry's degree is the number of its neighbours
+pub degree-is : (ns : List Node) (n : ℕ) → Roomy ns n → (v : ℕ) → v < n → length (neighbours (entry ns v)) ≡ entry ns v .degree
 degree-is ns n r v l = let t = r v l in length-take-le (entry ns v .degree) (entry ns v .ports) (omega (arith, t .0, t .1))

@@ -10,8 +10,8 @@ abbrev pub far : ℕ
 far = 65535
 
 -- the list says of each of the n nodes that it is not reached yet
-abbrev pub Unreached : ℕ → List ℕ → Type 0
-Unreached n ds = (v : ℕ) → v < n → getD ds v 0 ≡ far
+abbrev pub Unvisited : ℕ → List ℕ → Type 0
+Unvisited n ds = (v : ℕ) → v < n → getD ds v 0 ≡ far
 
 -- the list has, for each node, how many arcs stand before its own
 abbrev pub Numbered : Model → List ℕ → Type 0
@@ -22,5 +22,5 @@ abbrev pub Measured : Model → List ℕ → Type 0
 Measured m ds = (v : ℕ) → v < m .nodes → getD ds v 0 ≡ distance m v
 
 -- h is the greatest distance, as a function
-abbrev pub Topped : Model → ℕ → Type 0
-Topped m h = h ≡ height m
+abbrev pub Highest : Model → ℕ → Type 0
+Highest m h = h ≡ height m

@@ -3,7 +3,7 @@ ghost use mathlib.Core.Path.{_≡_};
 ghost use Prim.Native.Nat.{_≤_};
 ghost use Rattle.std.specs.Of.Vec.{vec-cap, vec-items, vec-len};
 ghost use Rattle.graph.specs.Model.{Drawn};
-ghost use Rattle.site.specs.Kept.{Unreached};
+ghost use Rattle.site.specs.Kept.{Unvisited};
 ghost use Rattle.site.specs.Table.{Roomy, Table, site-of};
 use crate::link::Link;
 use crate::node::Node;
@@ -24,5 +24,5 @@ pub struct SiteBuilder {
     ghost room: { 1024 ≤ vec-cap links },
     ghost arced: { vec-len «first_arcs» ≡ vec-len nodes },
     ghost spaced: { vec-len distances ≡ vec-len nodes },
-    ghost blank: { Unreached (vec-len nodes) (vec-items distances) },
+    ghost blank: { Unvisited (vec-len nodes) (vec-items distances) },
 }

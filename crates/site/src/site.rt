@@ -2,7 +2,7 @@
 ghost use mathlib.Core.Path.{_≡_};
 ghost use Rattle.std.specs.Of.Vec.{vec-items, vec-len};
 ghost use Rattle.graph.specs.Model.{Proper};
-ghost use Rattle.site.specs.Kept.{Measured, Numbered, Topped};
+ghost use Rattle.site.specs.Kept.{Measured, Numbered, Highest};
 ghost use Rattle.site.specs.Table.{Roomy, Table, site-of};
 use crate::link::Link;
 use crate::node::Node;
@@ -25,5 +25,5 @@ pub struct Site {
     ghost spaced: { vec-len distances ≡ vec-len nodes },
     ghost numbered: { Numbered (site-of (vec-len nodes) root (vec-items links)) (vec-items «first_arcs») },
     ghost measured: { Measured (site-of (vec-len nodes) root (vec-items links)) (vec-items distances) },
-    ghost topped: { Topped (site-of (vec-len nodes) root (vec-items links)) height },
+    ghost highest: { Highest (site-of (vec-len nodes) root (vec-items links)) height },
 }

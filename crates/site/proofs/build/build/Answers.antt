@@ -1,13 +1,12 @@
-use mathlib.Core.Path.{_≡_, refl, sym, ap, subst, _∙_}
+use mathlib.Core.Path.{_≡_, sym, ap, subst, _∙_}
 use mathlib.Core.Logic.{inl, inr}
 use mathlib.Core.List.{List, _∷_, _++_, map}
 use Prim.Native.Nat.{ℕ, _+_, _<_}
-use native.Mathlib.Omega.{arith}
 use lib.ListN.{length, take, drop, getD}
 use Rattle.std.proofs.shelf.Lists.{map-more, map-append, take-append-drop, drop-more, take-all}
 use Rattle.std.proofs.shelf.Results.{err-from-errBy}
 use Rattle.std.specs.declared.result.Result.{Result}
-use Rattle.std.specs.declared.result.Result.the-variants.{Ok, Err}
+use Rattle.std.specs.declared.result.Result.the-variants.{Err}
 use Rattle.refusal.specs.declared.Refusal.{Refusal}
 use Rattle.refusal.specs.Checks.{First, Free}
 use Rattle.graph.specs.Model.{Model, Proper, Reached}
@@ -16,7 +15,7 @@ use Rattle.site.specs.declared.fault.BuildFault.{BuildFault}
 use Rattle.site.specs.declared.fault.BuildFault.the-variants as fault
 use Rattle.site.specs.declared.site.Site.{Site}
 use Rattle.site.specs.Entering.{AllFree, FirstOf, Built, bare, whole, link-checks}
-use Rattle.site.specs.Sites.{draft, model}
+use Rattle.site.specs.Sites.{draft}
 use Rattle.site.specs.Table.{ends}
 use Rattle.site.proofs.Entries.{all-push, first-at, grown}
 use Rattle.site.proofs.build.build.Needs as need

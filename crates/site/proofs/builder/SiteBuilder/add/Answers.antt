@@ -1,14 +1,14 @@
 use mathlib.Core.Path.{_≡_, sym, ap, subst, _∙_}
-use mathlib.Core.List.{List, [], _∷_, _++_, map}
+use mathlib.Core.List.{List, []}
 use Prim.Native.Nat.{ℕ, _≤_}
 use native.Mathlib.Omega.{arith}
-use lib.ListN.{length, set}
+use lib.ListN.{set}
 use Rattle.std.proofs.shelf.Lists.{length-set, getD-set-other}
 use Rattle.std.specs.Of.Vec.{vec-items, vec-len, vec-cap}
 use Rattle.graph.specs.Model.{Drawn}
 use Rattle.site.specs.declared.node.Node.{Node}
 use Rattle.site.specs.Sites.{draft}
-use Rattle.site.specs.Table.{ends, entry, plus}
+use Rattle.site.specs.Table.{entry, plus}
 use Rattle.site.proofs.Whole.{drawn, entry-read}
 use Rattle.site.proofs.Adding.{free-order, free-room, free-drawn, links-push, roomy-push, table-push, room-for}
 use Rattle.site.proofs.builder.SiteBuilder.add.Needs as need

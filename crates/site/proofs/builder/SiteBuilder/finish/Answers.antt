@@ -1,16 +1,16 @@
-use mathlib.Core.Path.{_≡_, refl, sym, ap, subst, _∙_}
+use mathlib.Core.Path.{_≡_, refl, sym, subst, _∙_}
 use mathlib.Core.List.{List}
-use Prim.Native.Nat.{ℕ, _<_, _≤_}
+use Prim.Native.Nat.{_<_}
 use native.Mathlib.Omega.{arith}
-use lib.ListN.{length, getD, set}
-use Rattle.std.proofs.shelf.Lists.{refilled-is, length-set}
+use lib.ListN.{length}
+use Rattle.std.proofs.shelf.Lists.{refilled-is}
 use Rattle.std.specs.Changed.{with-item}
 use Rattle.std.specs.Of.Vec.{vec-items, vec-len}
 use Rattle.site.specs.declared.node.Node.{Node}
 use Rattle.site.specs.Kept.{Measured}
-use Rattle.site.specs.Levels.{Sound, Searched, final, Each}
+use Rattle.site.specs.Levels.{Sound, final, Each}
 use Rattle.site.specs.Sites.{draft}
-use Rattle.site.proofs.Finishing.{drawing, sound, started, searched, numbered, out-of-reach, finished, all-measured, top-height}
+use Rattle.site.proofs.Finishing.{sound, searched, numbered, out-of-reach, finished, all-measured, top-height}
 use Rattle.site.proofs.Whole.{drawn}
 use Rattle.site.proofs.builder.SiteBuilder.finish.Needs as need
 use Rattle.site.proofs.builder.SiteBuilder.finish.Needs.{After-greatest-height}
@@ -68,8 +68,8 @@ ghost-result c =
     let proper = finished m (drawn s) es top (length-marks d) (marks d) most taken low in
     let arcs = numbered s (c .deref-3 .result .now) (c .number-arcs .last .first-arcs) _ (c .deref-3 .ensures .value) (c .number-arcs .ensures) (refilled-is (s .«first_arcs») (c .number-arcs .last .first-arcs) k) in
     let measured = subst (Measured m) (d .deref-2 .ensures .value) (all-measured m (drawn s) es top (length-marks d) (marks d) most taken low) in
-    let topped = top-height m (drawn s) es top (length-marks d) (marks d) most taken low in
-    (∣ proper ∣₁, (s .roomy, (s .table, (s .arced, (s .spaced, (arcs, (measured, (topped, tt))))))))
+    let highest = top-height m (drawn s) es top (length-marks d) (marks d) most taken low in
+    (∣ proper ∣₁, (s .roomy, (s .table, (s .arced, (s .spaced, (arcs, (measured, (highest, tt))))))))
 
 pub returns : need.returns
 returns c =

@@ -9,8 +9,8 @@ use Rattle.graph.specs.Model.{Drawn, ports-of}
 use Rattle.graph.proofs.Growth.{drawn-none}
 use Rattle.site.specs.declared.link.Link.{Link}
 use Rattle.site.specs.declared.node.Node.{Node}
-use Rattle.site.specs.Kept.{Unreached}
-use Rattle.site.specs.Table.{Roomy, Table, blank, ends, entry, told, site-of}
+use Rattle.site.specs.Kept.{Unvisited}
+use Rattle.site.specs.Table.{Roomy, Table, blank, ends, entry, neighbours, site-of}
 use Rattle.site.proofs.builder.SiteBuilder.new.Needs as need
 
 pub ghost-result : need.ghost-result
@@ -31,6 +31,6 @@ ghost-result c =
     let spaced : vec-len (c .in-Continue-distances .distances) ≡ vec-len table = let a = c .in-Continue-distances .ensures tt .made .1 in omega arith in
     let drawn = subst Drawn (ap (site-of (vec-len table) (c .args .root)) (sym none)) (drawn-none (vec-len table) (c .args .root) (omega arith) (omega arith) (omega arith)) in
     let roomy : Roomy (vec-items table) (vec-len table) = λ v l. subst (λ (d : Node). (d .degree ≤ 8) × (length (d .ports) ≡ 8)) (sym (at v (omega arith))) (omega arith, refl) in
-    let tabled : Table (vec-items table) (vec-len table) ls = λ v l. ap told (at v (omega arith)) ∙ ap (λ (xs : List Link). ports-of (map ends xs) v) (sym none) in
-    let unreached : Unreached (vec-len table) ds = λ v l. ap (λ (xs : List ℕ). getD xs v 0) far ∙ getD-replicate n v 65535 0 (omega arith) in
+    let tabled : Table (vec-items table) (vec-len table) ls = λ v l. ap neighbours (at v (omega arith)) ∙ ap (λ (xs : List Link). ports-of (map ends xs) v) (sym none) in
+    let unreached : Unvisited (vec-len table) ds = λ v l. ap (λ (xs : List ℕ). getD xs v 0) far ∙ getD-replicate n v 65535 0 (omega arith) in
     (∣ drawn ∣₁, (roomy, (tabled, (links .1 .1, (arced, (spaced, (unreached, tt)))))))

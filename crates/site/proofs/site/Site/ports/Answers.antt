@@ -1,11 +1,11 @@
-use mathlib.Core.Path.{_≡_, sym, subst, ap, _∙_}
+use mathlib.Core.Path.{_≡_, sym, subst}
 use Prim.Native.Nat.{_<_, _≤_}
 use native.Mathlib.Omega.{arith}
 use Rattle.std.specs.Of.Vec.{vec-items, vec-len}
 use Rattle.graph.proofs.Drawn.{ports-none}
 use Rattle.site.specs.declared.node.Node.{Node}
 use Rattle.site.specs.Sites.{model}
-use Rattle.site.specs.Table.{entry, told}
+use Rattle.site.specs.Table.{entry}
 use Rattle.site.proofs.Whole.{proper, entry-read}
 use Rattle.site.proofs.site.Site.ports.Needs as need
 
