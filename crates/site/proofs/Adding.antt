@@ -1,30 +1,25 @@
 -- A link that is free of refusals, entered into the table and the list.
-use mathlib.Core.Path.{_≡_, refl, sym, ap, subst, _∙_}
-use mathlib.Core.Logic.{_⊎_, inl, inr}
-use mathlib.Core.Bool.{Bool, cond}
+use mathlib.Core.Path.{_≡_, sym, ap, subst, _∙_}
+use mathlib.Core.Logic.{inl, inr}
 use mathlib.Core.List.{List, [], _∷_, _++_, map}
-use Prim.Native.Nat.{ℕ, _+_, _*_, _<_, _≤_}
+use Prim.Native.Nat.{ℕ, _<_, _≤_}
 use native.Mathlib.Omega.{arith}
-use lib.Dec.{eqb}
-use lib.ListN.{length, take, set, getD}
-use borrow.Author.Tests.{eq-eqb, ne-eqb}
-use Rattle.std.proofs.shelf.Lists.{length-map, length-set, length-push, map-push, take-more-set, getD-set-same, getD-set-other}
-use Rattle.std.proofs.shelf.Tests.{cases-eq, cases-lt, cond-true, cond-false}
+use lib.ListN.{length, set}
+use Rattle.std.proofs.shelf.Lists.{length-map, length-set, map-push, take-more-set, getD-set-same, getD-set-other}
+use Rattle.std.proofs.shelf.Tests.{cases-eq, cases-lt}
 use Rattle.std.specs.Of.Vec.{vec-items, vec-len, vec-cap}
 use Rattle.refusal.specs.Checks.{Free}
-use Rattle.lists.specs.Members.{Among, Once}
-use Rattle.lists.proofs.Elements.{among-push-cases, once-push}
-use Rattle.graph.specs.Model.{Model, ports, ports-of}
-use Rattle.graph.proofs.Ports.{ports-push}
+use Rattle.graph.specs.Model.{Model, Drawn, ports, ports-of}
+use Rattle.graph.proofs.Ports.{ports-push-first, ports-push-second, ports-push-other}
+use Rattle.graph.proofs.Growth.{drawn-push}
 use Rattle.graph.proofs.Handshake.{links-room}
 use Rattle.site.specs.declared.link.Link.{Link}
 use Rattle.site.specs.declared.node.Node.{Node}
 use Rattle.site.specs.declared.builder.SiteBuilder.{SiteBuilder}
-use Rattle.site.specs.Table.{ends, entry, told, plus, Roomy, Table}
-use Rattle.site.specs.Kept.{Ordered, Single}
+use Rattle.site.specs.Table.{ends, entry, neighbours, plus, Roomy, Table}
 use Rattle.site.specs.Sites.{draft}
-use Rattle.site.specs.Entering.{link-checks}
-use Rattle.site.proofs.Whole.{degree-is, drawn-builder, once-from}
+use Rattle.site.specs.Entering.{link-checks, with-link}
+use Rattle.site.proofs.Whole.{degree-is, drawn}
 
 module _ (m : Model) (a b : ℕ) (free : Free (link-checks m a b)) where
   pub free-order : (a < b) × (b < m .nodes)
@@ -33,37 +28,32 @@ module _ (m : Model) (a b : ℕ) (free : Free (link-checks m a b)) where
     | inr l ↦ absurd (free .0 (λ t. let x = t .0 in omega arith))
   ]
 
-  pub free-new : Among (a, b) (m .links) → ⊥
-  free-new = free .1 .0
+  pub free-room : (length (ports m a) < 8) × (length (ports m b) < 8)
+  free-room = (
+    elim (cases-lt (length (ports m a)) 8) [ inl l ↦ l | inr l ↦ absurd (free .1 .1 .0 (inl l)) ],
+    elim (cases-lt (length (ports m b)) 8) [ inl l ↦ l | inr l ↦ absurd (free .1 .1 .0 (inr l)) ],
+  )
 
-  pub free-room : (length (ports m a) ≤ 7) × (length (ports m b) ≤ 7)
-  free-room = (elim (cases-lt (length (ports m a)) 8) [ inl l ↦ omega arith | inr l ↦ absurd (free .1 .1 .0 (inl l)) ], elim (cases-lt (length (ports m b)) 8) [ inl l ↦ omega arith | inr l ↦ absurd (free .1 .1 .0 (inr l)) ])
+  -- with the link the model is drawn too
+  pub free-drawn : Drawn m → Drawn (with-link m a b)
+  free-drawn d = let o = free-order in let r = free-room in drawn-push m a b d (o .0) (o .1) (free .1 .0) (r .0) (r .1)
 
 -- the list of links with one more
 pub links-push : (ls ms : List Link) (a b : ℕ) → ms ≡ ls ++ (record { a = a; b = b } ∷ []) → map ends ms ≡ map ends ls ++ ((a, b) ∷ [])
 links-push ls ms a b e = ap (map ends) e ∙ map-push ends ls (record { a = a; b = b })
 
-pub ordered-push : (n : ℕ) (ls ms : List Link) (a b : ℕ) → a < b → b < n → map ends ms ≡ map ends ls ++ ((a, b) ∷ []) → Ordered n ls → Ordered n ms
-ordered-push n ls ms a b l k e h x y m = elim (among-push-cases (x, y) (map ends ls) (a, b) (subst (Among (x, y)) e m)) [
-  | inl p ↦ h x y p
-  | inr q ↦ let f = ap (λ (z : ℕ × ℕ). z .0) q in let g = ap (λ (z : ℕ × ℕ). z .1) q in (omega arith, omega arith)
-]
-
-pub single-push : (ls ms : List Link) (a b : ℕ) → (Among (a, b) (map ends ls) → ⊥) → map ends ms ≡ map ends ls ++ ((a, b) ∷ []) → Single ls → Single ms
-single-push ls ms a b n e h = ∣ subst Once (sym e) (once-push (map ends ls) (a, b) (once-from (map ends ls) h) n) ∣₁
-
 -- one port more in an entry
 abbrev Fresh : Node → List ℕ → Type 0
-Fresh d ps = ((d .degree ≤ 8) × (length (d .ports) ≡ 8)) × (told d ≡ ps)
+Fresh d ps = ((d .degree ≤ 8) × (length (d .ports) ≡ 8)) × (neighbours d ≡ ps)
 
-fresh-plus : (d : Node) (x : ℕ) (ps : List ℕ) → d .degree < 8 → length (d .ports) ≡ 8 → told d ≡ ps → Fresh (plus d x) (ps ++ (x ∷ []))
+fresh-plus : (d : Node) (x : ℕ) (ps : List ℕ) → d .degree < 8 → length (d .ports) ≡ 8 → neighbours d ≡ ps → Fresh (plus d x) (ps ++ (x ∷ []))
 fresh-plus d x ps l r e = (
   (omega arith, length-set (d .ports) (d .degree) x ∙ r),
   take-more-set (d .ports) (d .degree) x (omega arith) ∙ ap (λ (w : List ℕ). w ++ (x ∷ [])) e,
 )
 
 module _ (ns : List Node) (n : ℕ) (ls : List Link) (a b : ℕ) (da db : Node) (ab : a < b) (bn : b < n) (len : n ≡ length ns) (roomy : Roomy ns n) (table : Table ns n ls)
-    (ra : length (ports-of (map ends ls) a) ≤ 7) (rb : length (ports-of (map ends ls) b) ≤ 7) (ea : da ≡ plus (entry ns a) b) (eb : db ≡ plus (entry ns b) a) where
+    (ra : length (ports-of (map ends ls) a) < 8) (rb : length (ports-of (map ends ls) b) < 8) (ea : da ≡ plus (entry ns a) b) (eb : db ≡ plus (entry ns b) a) where
   abbrev none : Node
   none = record { degree = 0; ports = [] }
 
@@ -76,13 +66,13 @@ module _ (ns : List Node) (n : ℕ) (ls : List Link) (a b : ℕ) (da db : Node) 
   abbrev ls′ : List (ℕ × ℕ)
   ls′ = map ends ls ++ ((a, b) ∷ [])
 
-  low : (v : ℕ) → v < n → length (ports-of (map ends ls) v) ≤ 7 → entry ns v .degree < 8
+  low : (v : ℕ) → v < n → length (ports-of (map ends ls) v) < 8 → entry ns v .degree < 8
   low v l r = let e = degree-is ns n roomy v l in let f = ap length (table v l) in omega arith
 
   at-low : Fresh (entry two a) (ports-of ls′ a)
   at-low =
       let e : entry two a ≡ plus (entry ns a) b = getD-set-other one b a db none (λ h. omega arith) ∙ getD-set-same ns a da none (omega arith) ∙ ea in
-      let p = ports-push (map ends ls) a b a ∙ cond-true (eqb a a) (ports-of (map ends ls) a ++ (b ∷ [])) (cond (eqb b a) (ports-of (map ends ls) a ++ (a ∷ [])) (ports-of (map ends ls) a)) (eq-eqb a a refl) in
+      let p = ports-push-first (map ends ls) a b in
       subst (λ (d : Node). Fresh d (ports-of ls′ a)) (sym e) (subst (Fresh (plus (entry ns a) b)) (sym p)
       (fresh-plus (entry ns a) b (ports-of (map ends ls) a) (low a (omega arith) ra) (roomy a (omega arith) .1) (table a (omega arith))))
 
@@ -90,18 +80,14 @@ module _ (ns : List Node) (n : ℕ) (ls : List Link) (a b : ℕ) (da db : Node) 
   at-high =
       let q = length-set ns a da in
       let e : entry two b ≡ plus (entry ns b) a = getD-set-same one b db none (omega arith) ∙ eb in
-      let p = ports-push (map ends ls) a b b
-      ∙ cond-false (eqb a b) (ports-of (map ends ls) b ++ (b ∷ [])) (cond (eqb b b) (ports-of (map ends ls) b ++ (a ∷ [])) (ports-of (map ends ls) b)) (ne-eqb a b (λ h. omega arith))
-      ∙ cond-true (eqb b b) (ports-of (map ends ls) b ++ (a ∷ [])) (ports-of (map ends ls) b) (eq-eqb b b refl) in
+      let p = ports-push-second (map ends ls) a b (λ h. omega arith) in
       subst (λ (d : Node). Fresh d (ports-of ls′ b)) (sym e) (subst (Fresh (plus (entry ns b) a)) (sym p)
       (fresh-plus (entry ns b) a (ports-of (map ends ls) b) (low b bn rb) (roomy b bn .1) (table b bn)))
 
   at-other : (v : ℕ) → v < n → (v ≡ a → ⊥) → (v ≡ b → ⊥) → Fresh (entry two v) (ports-of ls′ v)
   at-other v l na nb =
       let e : entry two v ≡ entry ns v = getD-set-other one b v db none nb ∙ getD-set-other ns a v da none na in
-      let p = ports-push (map ends ls) a b v
-      ∙ cond-false (eqb a v) (ports-of (map ends ls) v ++ (b ∷ [])) (cond (eqb b v) (ports-of (map ends ls) v ++ (a ∷ [])) (ports-of (map ends ls) v)) (ne-eqb a v (λ h. na (sym h)))
-      ∙ cond-false (eqb b v) (ports-of (map ends ls) v ++ (a ∷ [])) (ports-of (map ends ls) v) (ne-eqb b v (λ h. nb (sym h))) in
+      let p = ports-push-other (map ends ls) a b v (λ h. na (sym h)) (λ h. nb (sym h)) in
       subst (λ (d : Node). Fresh d (ports-of ls′ v)) (sym e) (subst (Fresh (entry ns v)) (sym p) (roomy v l, table v l))
 
   all-fresh : (v : ℕ) → v < n → Fresh (entry two v) (ports-of ls′ v)
@@ -116,14 +102,18 @@ module _ (ns : List Node) (n : ℕ) (ls : List Link) (a b : ℕ) (da db : Node) 
   pub table-push : (ms : List Link) → map ends ms ≡ map ends ls ++ ((a, b) ∷ []) → Table (set (set ns a da) b db) n ms
   table-push ms e v l = all-fresh v l .1 ∙ ap (λ (w : List (ℕ × ℕ)). ports-of w v) (sym e)
 
+-- the ends of a free link are small
+pub free-small : (s : SiteBuilder) (a b : ℕ) → Free (link-checks (draft s) a b) → (a < 256) × (b < 256)
+free-small s a b free = let o = free-order (draft s) a b free in let n = drawn s .limit in (omega (arith, o .0, o .1), omega (arith, o .1))
+
 -- there is room for a free link in the list
 pub room-for : (s : SiteBuilder) (a b : ℕ) → Free (link-checks (draft s) a b) → vec-len (s .links) < vec-cap (s .links)
 room-for s a b free =
     let m = draft s in
-    let d = drawn-builder s in
+    let d = drawn s in
     let o = free-order m a b free in
     let r = free-room m a b free in
-    let k = links-room m (d .ordered) (d .few) a b (λ e. omega (arith, o .0)) (omega (arith, o .0, o .1)) (o .1) (r .0) (r .1) in
+    let k = links-room m (d .ordered) (d .few) a b (λ e. omega (arith, o .0)) (omega (arith, o .0, o .1)) (o .1) (omega (arith, r .0)) (omega (arith, r .1)) in
     let n = d .limit in
     let e = s .links .ok .0 in
     let f = length-map (vec-items (s .links)) ends in

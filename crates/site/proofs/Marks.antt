@@ -1,14 +1,12 @@
 -- The marks of the search from the root, node by node and level by level.
-use mathlib.Core.Path.{_≡_, refl, sym, ap, subst, _∙_}
-use mathlib.Core.Logic.{_⊎_, inl, inr}
-use mathlib.Core.Bool.{Bool, true, false, cond, _||_}
-use mathlib.Core.List.{List}
+use mathlib.Core.Path.{_≡_, refl, sym, ap, _∙_}
+use mathlib.Core.Logic.{inl, inr}
+use mathlib.Core.Bool.{Bool, true, false, _||_}
 use Prim.Native.Nat.{ℕ, zero, suc, _+_, _-_, _<_, _≤_}
 use native.Mathlib.Omega.{arith}
 use lib.Dec.{leb}
-use lib.ListN.{getD}
-use borrow.Author.Tests.{le-leb, lt-leb, both-ways, eqb-true, ne-eqb, eq-eqb}
-use Rattle.std.proofs.shelf.Tests.{cases-bool, cases-lt, cases-eq, cond-true, cond-false}
+use borrow.Author.Tests.{le-leb, lt-leb, both-ways, ne-eqb, eq-eqb}
+use Rattle.std.proofs.shelf.Tests.{cases-bool, cond-true, cond-false}
 use Rattle.graph.specs.Model.{Model, Drawn, ports, any, within, misses, distance}
 use Rattle.graph.proofs.Walks.{within-more, within-not, within-mono, stuck}
 use Rattle.site.specs.Levels.{mark, final}

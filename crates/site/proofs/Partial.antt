@@ -1,6 +1,6 @@
 -- Marks in the midst of a level: the nodes below i have their next mark, the others the one before.
-use mathlib.Core.Path.{_≡_, refl, sym, ap, subst, _∙_}
-use mathlib.Core.Logic.{_⊎_, inl, inr}
+use mathlib.Core.Path.{_≡_, sym, ap, _∙_}
+use mathlib.Core.Logic.{inl, inr}
 use mathlib.Core.Bool.{Bool}
 use mathlib.Core.List.{List}
 use Prim.Native.Nat.{ℕ, suc, _+_, _<_, _≤_}
@@ -9,10 +9,10 @@ use lib.Dec.{leb}
 use lib.ListN.{getD, set, length}
 use Rattle.std.proofs.shelf.Lists.{getD-set-same, getD-set-other}
 use Rattle.std.proofs.shelf.Tests.{cases-lt, cases-eq}
-use Rattle.graph.specs.Model.{Model, Drawn, ports, any, within}
+use Rattle.graph.specs.Model.{Model, ports, any, within}
 use Rattle.graph.proofs.Drawn.{inside}
 use Rattle.site.specs.declared.node.Node.{Node}
-use Rattle.site.specs.Table.{entry, told}
+use Rattle.site.specs.Table.{entry, neighbours}
 use Rattle.site.specs.Levels.{mark, Drawing}
 use Rattle.site.proofs.Ends.{any-same}
 use Rattle.site.proofs.Marks.{mark-tells, mark-tells-next}
@@ -32,7 +32,7 @@ module _ (m : Model) (k : ℕ) (low : k < 256) where
   ]
 
   -- whether a neighbour's mark is at most k says whether a neighbour is within k
-  pub partly-touches : (ns : List Node) → Drawing m ns → (i : ℕ) (ds : List ℕ) → Partly m k i ds → (v : ℕ) → v < m .nodes → any (λ u. leb (getD ds u 0) k) (told (entry ns v)) ≡ any (within m k) (ports m v)
+  pub partly-touches : (ns : List Node) → Drawing m ns → (i : ℕ) (ds : List ℕ) → Partly m k i ds → (v : ℕ) → v < m .nodes → any (λ u. leb (getD ds u 0) k) (neighbours (entry ns v)) ≡ any (within m k) (ports m v)
   partly-touches ns d i ds h v l =
       let p : ℕ → Bool = λ u. leb (getD ds u 0) k in
       ap (any p) (d .2 v l) ∙ any-same p (within m k) (ports m v) (λ u a. partly-tells i ds h u (inside m (d .0) u v a .1))

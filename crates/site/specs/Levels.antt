@@ -2,33 +2,33 @@
 use mathlib.Core.Path.{_≡_}
 use mathlib.Core.Bool.{Bool, false, cond}
 use mathlib.Core.List.{List}
-use Prim.Native.Nat.{ℕ, suc, _<_, _≤_}
-use lib.Dec.{leb}
+use Prim.Native.Nat.{ℕ, suc, _<_}
 use lib.ListN.{getD, length}
 use Rattle.lists.specs.Members.{Among}
 use Rattle.graph.specs.Model.{Model, Drawn, ports, within, misses, distance, arcs-before}
 use Rattle.site.specs.declared.node.Node.{Node}
-use Rattle.site.specs.Table.{Roomy, entry, told}
+use Rattle.site.specs.Kept.{far}
+use Rattle.site.specs.Table.{Roomy, entry, neighbours}
 
 -- what stands for a node after k levels: its distance if it is within k, else that it was not reached
 unfoldable pub mark : Model → ℕ → ℕ → ℕ
-mark m k v = cond (within m k v) (misses m v k) 65535
+mark m k v = cond (within m k v) (misses m v k) far
 
 -- what stands for a node at the end
 unfoldable pub final : Model → ℕ → ℕ
-final m v = cond (within m (m .nodes) v) (distance m v) 65535
+final m v = cond (within m (m .nodes) v) (distance m v) far
 
 -- the list has this for each of the n nodes
 abbrev pub Each : ℕ → (ℕ → ℕ) → List ℕ → Type 0
 Each n f ds = (v : ℕ) → v < n → getD ds v 0 ≡ f v
 
--- each of the n entries has room for eight ports, and those that it tells are of the n
+-- each of the n entries has room for eight ports, and those that it has are of the n
 abbrev pub Sound : List Node → ℕ → Type 0
-Sound ns n = Roomy ns n × ((v : ℕ) → v < n → (u : ℕ) → Among u (told (entry ns v)) → u < n)
+Sound ns n = Roomy ns n × ((v : ℕ) → v < n → (u : ℕ) → Among u (neighbours (entry ns v)) → u < n)
 
 -- the table is that of the model
 abbrev pub Drawing : Model → List Node → Type 0
-Drawing m ns = Drawn m × (length ns ≡ m .nodes) × ((v : ℕ) → v < m .nodes → told (entry ns v) ≡ ports m v)
+Drawing m ns = Drawn m × (length ns ≡ m .nodes) × ((v : ℕ) → v < m .nodes → neighbours (entry ns v) ≡ ports m v)
 
 -- one level more: the marks before, whether a node was added, the marks after
 abbrev pub Spread : List Node → ℕ → List ℕ → Bool → List ℕ → Type 0

@@ -1,4 +1,4 @@
--- The table of nodes: what an entry tells of a node's ports, and when a table is that of a list of links.
+-- The table of nodes: the ports that an entry has, and when a table is that of a list of links.
 use mathlib.Core.Path.{_≡_}
 use mathlib.Core.List.{List, [], map}
 use Prim.Native.Nat.{ℕ, _+_, _<_, _≤_}
@@ -11,9 +11,9 @@ use Rattle.site.specs.declared.node.Node.{Node}
 abbrev pub ends : Link → ℕ × ℕ
 ends l = (l .a, l .b)
 
--- the ports that an entry tells
-abbrev pub told : Node → List ℕ
-told d = take (d .degree) (d .ports)
+-- the neighbours that an entry has, port by port
+abbrev pub neighbours : Node → List ℕ
+neighbours d = take (d .degree) (d .ports)
 
 -- an entry with no ports
 abbrev pub blank : Node
@@ -23,7 +23,7 @@ blank = record { degree = 0; ports = replicate 8 0 }
 abbrev pub plus : Node → ℕ → Node
 plus d to = record { degree = d .degree + 1; ports = set (d .ports) (d .degree) to }
 
--- the entry of a node; past the table it tells no ports
+-- the entry of a node; past the table it has none
 abbrev pub entry : List Node → ℕ → Node
 entry ds v = getD ds v (record { degree = 0; ports = [] })
 
@@ -35,6 +35,6 @@ site-of n r ls = record { nodes = n; root = r; links = map ends ls }
 abbrev pub Roomy : List Node → ℕ → Type 0
 Roomy ds n = (v : ℕ) → v < n → (entry ds v .degree ≤ 8) × (length (entry ds v .ports) ≡ 8)
 
--- each of the n entries tells the ports of its node
+-- each of the n entries has the ports of its node
 abbrev pub Table : List Node → ℕ → List Link → Type 0
-Table ds n ls = (v : ℕ) → v < n → told (entry ds v) ≡ ports-of (map ends ls) v
+Table ds n ls = (v : ℕ) → v < n → neighbours (entry ds v) ≡ ports-of (map ends ls) v

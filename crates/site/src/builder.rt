@@ -2,8 +2,9 @@
 ghost use mathlib.Core.Path.{_≡_};
 ghost use Prim.Native.Nat.{_≤_};
 ghost use Rattle.std.specs.Of.Vec.{vec-cap, vec-items, vec-len};
-ghost use Rattle.site.specs.Kept.{Ordered, Single, Sized, Unreached};
-ghost use Rattle.site.specs.Table.{Roomy, Table};
+ghost use Rattle.graph.specs.Model.{Drawn};
+ghost use Rattle.site.specs.Kept.{Unvisited};
+ghost use Rattle.site.specs.Table.{Roomy, Table, site-of};
 use crate::link::Link;
 use crate::node::Node;
 
@@ -17,13 +18,11 @@ pub struct SiteBuilder {
     links: Vec<Link>,
     first_arcs: Vec<u16>,
     distances: Vec<u16>,
-    ghost sized: { Sized (vec-len nodes) root },
-    ghost ordered: { Ordered (vec-len nodes) (vec-items links) },
-    ghost single: { Single (vec-items links) },
+    ghost drawn: { ∥ Drawn (site-of (vec-len nodes) root (vec-items links)) ∥₁ },
     ghost roomy: { Roomy (vec-items nodes) (vec-len nodes) },
     ghost table: { Table (vec-items nodes) (vec-len nodes) (vec-items links) },
     ghost room: { 1024 ≤ vec-cap links },
     ghost arced: { vec-len «first_arcs» ≡ vec-len nodes },
     ghost spaced: { vec-len distances ≡ vec-len nodes },
-    ghost blank: { Unreached (vec-len nodes) (vec-items distances) },
+    ghost blank: { Unvisited (vec-len nodes) (vec-items distances) },
 }

@@ -6,15 +6,15 @@ ghost use lib.ListN.{getD, length};
 ghost use Rattle.lists.specs.Members.{Among};
 ghost use Rattle.graph.specs.Model.{any};
 ghost use Rattle.site.specs.Levels.{Counted, Searched, Sound, Spread};
-ghost use Rattle.site.specs.Table.{told};
+ghost use Rattle.site.specs.Table.{neighbours};
 use crate::limits::FAR;
 use crate::node::Node;
 
 /// Whether a neighbour stands at the level or nearer.
 fn touches(node: &Node, distances: &[u16], level: u16) -> bool
     requires { ⌜ now node .degree ≤ 8 ⌝ }
-    requires { ⌜ ((u : ℕ) → Among u (told (now node)) → u < length (now distances)) ⌝ }
-    ensures { λ r. ⌜ r ≡ any (λ u. leb (getD (now (distances .entry)) u 0) level) (told (now (node .entry))) ⌝ }
+    requires { ⌜ ((u : ℕ) → Among u (neighbours (now node)) → u < length (now distances)) ⌝ }
+    ensures { λ r. ⌜ r ≡ any (λ u. leb (getD (now (distances .entry)) u 0) level) (neighbours (now (node .entry))) ⌝ }
 {
     for u in node.ports() {
         if distances[*u as usize] <= level {

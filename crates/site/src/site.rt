@@ -1,7 +1,8 @@
 //! A finished site.
 ghost use mathlib.Core.Path.{_≡_};
 ghost use Rattle.std.specs.Of.Vec.{vec-items, vec-len};
-ghost use Rattle.site.specs.Kept.{Measured, Numbered, Ordered, Single, Sized, Topped, Within};
+ghost use Rattle.graph.specs.Model.{Proper};
+ghost use Rattle.site.specs.Kept.{Measured, Numbered, Highest};
 ghost use Rattle.site.specs.Table.{Roomy, Table, site-of};
 use crate::link::Link;
 use crate::node::Node;
@@ -17,15 +18,12 @@ pub struct Site {
     pub(crate) links: Vec<Link>,
     pub(crate) first_arcs: Vec<u16>,
     pub(crate) distances: Vec<u16>,
-    ghost sized: { Sized (vec-len nodes) root },
-    ghost ordered: { Ordered (vec-len nodes) (vec-items links) },
-    ghost single: { Single (vec-items links) },
+    ghost proper: { ∥ Proper (site-of (vec-len nodes) root (vec-items links)) ∥₁ },
     ghost roomy: { Roomy (vec-items nodes) (vec-len nodes) },
     ghost table: { Table (vec-items nodes) (vec-len nodes) (vec-items links) },
     ghost arced: { vec-len «first_arcs» ≡ vec-len nodes },
     ghost spaced: { vec-len distances ≡ vec-len nodes },
-    ghost within: { Within (site-of (vec-len nodes) root (vec-items links)) },
     ghost numbered: { Numbered (site-of (vec-len nodes) root (vec-items links)) (vec-items «first_arcs») },
     ghost measured: { Measured (site-of (vec-len nodes) root (vec-items links)) (vec-items distances) },
-    ghost topped: { Topped (site-of (vec-len nodes) root (vec-items links)) height },
+    ghost highest: { Highest (site-of (vec-len nodes) root (vec-items links)) height },
 }

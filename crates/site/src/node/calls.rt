@@ -3,8 +3,9 @@ ghost use mathlib.Core.Path.{_≡_};
 ghost use Prim.Native.Nat.{_<_, _≤_};
 ghost use Rattle.std.specs.Orderings.{Decides};
 ghost use Rattle.lists.specs.Members.{Among};
-ghost use Rattle.site.specs.Table.{blank, plus, told};
+ghost use Rattle.site.specs.Table.{blank, plus, neighbours};
 use super::Node;
+use crate::limits::PORTS;
 
 impl Node {
     /// An entry with no ports.
@@ -13,7 +14,7 @@ impl Node {
     {
         Node {
             degree: 0,
-            ports: [0; 8],
+            ports: [0; PORTS],
         }
     }
 
@@ -27,7 +28,7 @@ impl Node {
     /// The node's neighbours, port by port.
     pub(crate) fn ports(&self) -> &[u16]
         requires { ⌜ now self .degree ≤ 8 ⌝ }
-        ensures { λ r. ⌜ now r ≡ told (now (self .entry)) ⌝ }
+        ensures { λ r. ⌜ now r ≡ neighbours (now (self .entry)) ⌝ }
     {
         &self.ports[0..self.degree as usize]
     }
@@ -35,7 +36,7 @@ impl Node {
     /// Whether `x` is a neighbour.
     pub(crate) fn has(&self, x: u16) -> bool
         requires { ⌜ now self .degree ≤ 8 ⌝ }
-        ensures { λ r. ⌜ Decides r (Among x (told (now (self .entry)))) ⌝ }
+        ensures { λ r. ⌜ Decides r (Among x (neighbours (now (self .entry)))) ⌝ }
     {
         for p in self.ports() {
             if *p == x {

@@ -37,7 +37,7 @@ impl Site {
     pub fn ports(&self, v: usize) -> &[u16]
         ensures { λ r. ⌜ now r ≡ ports (model (now (self .entry))) v ⌝ }
     {
-        if v < self.nodes.len() {
+        if v < self.nodes() {
             self.nodes[v].ports()
         } else {
             &[]

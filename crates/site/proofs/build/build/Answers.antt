@@ -1,13 +1,12 @@
-use mathlib.Core.Path.{_≡_, refl, sym, ap, subst, _∙_}
+use mathlib.Core.Path.{_≡_, sym, ap, subst, _∙_}
 use mathlib.Core.Logic.{inl, inr}
 use mathlib.Core.List.{List, _∷_, _++_, map}
 use Prim.Native.Nat.{ℕ, _+_, _<_}
-use native.Mathlib.Omega.{arith}
 use lib.ListN.{length, take, drop, getD}
 use Rattle.std.proofs.shelf.Lists.{map-more, map-append, take-append-drop, drop-more, take-all}
 use Rattle.std.proofs.shelf.Results.{err-from-errBy}
 use Rattle.std.specs.declared.result.Result.{Result}
-use Rattle.std.specs.declared.result.Result.the-variants.{Ok, Err}
+use Rattle.std.specs.declared.result.Result.the-variants.{Err}
 use Rattle.refusal.specs.declared.Refusal.{Refusal}
 use Rattle.refusal.specs.Checks.{First, Free}
 use Rattle.graph.specs.Model.{Model, Proper, Reached}
@@ -15,10 +14,10 @@ use Rattle.site.specs.declared.link.Link.{Link}
 use Rattle.site.specs.declared.fault.BuildFault.{BuildFault}
 use Rattle.site.specs.declared.fault.BuildFault.the-variants as fault
 use Rattle.site.specs.declared.site.Site.{Site}
-use Rattle.site.specs.Entering.{AllFree, FirstOf, Built, bare, whole, with-link, link-checks}
-use Rattle.site.specs.Sites.{draft, model}
+use Rattle.site.specs.Entering.{AllFree, FirstOf, Built, bare, whole, link-checks}
+use Rattle.site.specs.Sites.{draft}
 use Rattle.site.specs.Table.{ends}
-use Rattle.site.proofs.Entries.{all-push, first-at}
+use Rattle.site.proofs.Entries.{all-push, first-at, grown}
 use Rattle.site.proofs.build.build.Needs as need
 
 abbrev none : Link
@@ -59,11 +58,9 @@ loop-link-again c =
     let l = getD ls i none in
     let inv = c .loop-link .inv in
     let h = c .in-Continue-enter .ensures tt in
-    let more = sym (map-more ends ls i none (c .loop-link-test .taken)) in (
-      inv .0,
-      h .1 ∙ ap (λ (m : Model). with-link m (l .a) (l .b)) (inv .1) ∙ ap (whole n r) more,
-      subst (AllFree (bare n r)) more (all-push (bare n r) (map ends (take i ls)) (ends l) (inv .2) (subst (λ (m : Model). Free (link-checks m (l .a) (l .b))) (inv .1) (h .0))),
-    )
+    let more = sym (map-more ends ls i none (c .loop-link-test .taken)) in
+    let free = all-push (bare n r) (map ends (take i ls)) (ends l) (inv .2) (subst (λ (m : Model). Free (link-checks m (l .a) (l .b))) (inv .1) (h .0)) in
+    (inv .0, grown n r (l .a) (l .b) (map ends (take i ls)) (map ends (take (i + 1) ls)) (draft (c .loop-link .builder)) (draft (c .enter .last .self)) (h .1) (inv .1) more, subst (AllFree (bare n r)) more free)
 
 pub returns-in-Break-finish : need.returns-in-Break-finish
 returns-in-Break-finish c =

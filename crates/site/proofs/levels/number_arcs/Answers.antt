@@ -1,13 +1,12 @@
 use mathlib.Core.Path.{_≡_, refl, sym, ap, subst, _∙_}
-use Prim.Native.Nat.{ℕ, _+_, _<_, _≤_, _*_}
+use Prim.Native.Nat.{ℕ, _+_, _<_, _≤_}
 use native.Mathlib.Omega.{arith}
 use native.Mathlib.Numerals.{add-one}
-use lib.ListN.{length, getD, set, take}
+use lib.ListN.{length, getD, set}
 use borrow.Author.Count.{below-more}
 use Rattle.std.proofs.shelf.Lists.{getD-set-same, getD-set-other, length-take-le}
-use Rattle.graph.specs.Model.{Model, arcs-before, ports}
-use Rattle.site.specs.Table.{entry, told}
-use Rattle.site.specs.Levels.{Drawing}
+use Rattle.graph.specs.Model.{arcs-before, ports}
+use Rattle.site.specs.Table.{entry}
 use Rattle.site.proofs.levels.number_arcs.Needs as need
 
 pub loop-v-holds : need.loop-v-holds

@@ -1,6 +1,5 @@
-use Prim.Native.Nat.{ℕ, _<_, _≤_, _*_}
+use Prim.Native.Nat.{_≤_, _*_}
 use mathlib.Core.Path.{_≡_}
-use lib.ListN.{getD}
 use Rattle.graph.specs.Model.{Model, arcs-before}
 use Rattle.site.specs.Levels.{Drawing, Each}
 use Rattle.site.proofs.levels.number_arcs.Given as given

@@ -1,8 +1,8 @@
-use mathlib.Core.Path.{_≡_, sym, subst, ap, _∙_}
-use Prim.Native.Nat.{ℕ, suc, _+_, _<_}
+use mathlib.Core.Path.{_≡_, sym, ap, _∙_}
+use Prim.Native.Nat.{ℕ}
 use native.Mathlib.Omega.{arith}
 use native.Mathlib.Numerals.{add-one}
-use Rattle.site.specs.Levels.{mark, final}
+use Rattle.site.specs.Levels.{mark}
 use Rattle.site.proofs.Marks.{final-all, final-stuck}
 use Rattle.site.proofs.levels.search.Needs as need
 

@@ -1,15 +1,13 @@
-use mathlib.Core.Path.{_≡_, refl, sym, subst, ap, _∙_}
-use mathlib.Core.Bool.{Bool, true, false}
+use mathlib.Core.Path.{_≡_, sym, subst, _∙_}
+use mathlib.Core.Bool.{Bool, false}
 use mathlib.Core.List.{List}
-use Prim.Native.Nat.{ℕ, suc, _+_, _<_, _≤_}
+use Prim.Native.Nat.{ℕ, suc, _+_, _<_}
 use native.Mathlib.Omega.{arith}
-use native.Mathlib.Numerals.{add-one}
-use lib.ListN.{length, set}
+use lib.ListN.{length}
 use borrow.Author.Count.{below-more}
 use borrow.Author.Tests.{both-ways}
-use Rattle.graph.specs.Model.{Model, ports, any, within}
-use Rattle.site.specs.Table.{entry, told}
-use Rattle.site.specs.Levels.{mark, Drawing, Each}
+use Rattle.graph.specs.Model.{Model, within}
+use Rattle.site.specs.Levels.{mark}
 use Rattle.site.proofs.Marks.{level-adds, level-leaves, level-keeps}
 use Rattle.site.proofs.Partial.{Partly, Still, partly-touches, partly-set, partly-keep}
 use Rattle.site.proofs.levels.spread.Needs as need

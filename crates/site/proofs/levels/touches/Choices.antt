@@ -3,8 +3,8 @@ use mathlib.Core.Bool.{false}
 use lib.Dec.{leb}
 use lib.ListN.{getD, take}
 use Rattle.graph.specs.Model.{any}
-use Rattle.site.specs.Table.{told}
+use Rattle.site.specs.Table.{neighbours}
 use Rattle.site.proofs.levels.touches.Given as given
 
 abbrev pub Inv-loop-u : given.InvT-loop-u
-Inv-loop-u l = any (λ u. leb (getD (l .distances) u 0) (l .level)) (take (l .u-index) (told (l .node))) ≡ false
+Inv-loop-u l = any (λ u. leb (getD (l .distances) u 0) (l .level)) (take (l .u-index) (neighbours (l .node))) ≡ false

@@ -1,16 +1,16 @@
-use mathlib.Core.Path.{_≡_, refl, sym, ap, _∙_}
-use mathlib.Core.List.{List, [], _∷_, _++_, map}
-use Prim.Native.Nat.{ℕ, _<_}
+use mathlib.Core.Path.{_≡_, sym, ap, subst, _∙_}
+use mathlib.Core.List.{List, []}
+use Prim.Native.Nat.{ℕ, _≤_}
 use native.Mathlib.Omega.{arith}
-use lib.ListN.{length, set}
+use lib.ListN.{set}
 use Rattle.std.proofs.shelf.Lists.{length-set, getD-set-other}
-use Rattle.std.specs.Of.Vec.{vec-items, vec-len}
-use Rattle.graph.specs.Model.{Model}
+use Rattle.std.specs.Of.Vec.{vec-items, vec-len, vec-cap}
+use Rattle.graph.specs.Model.{Drawn}
 use Rattle.site.specs.declared.node.Node.{Node}
 use Rattle.site.specs.Sites.{draft}
-use Rattle.site.specs.Table.{ends, entry, plus}
-use Rattle.site.proofs.Whole.{entry-read}
-use Rattle.site.proofs.Adding.{free-order, free-new, free-room, links-push, ordered-push, single-push, roomy-push, table-push, room-for}
+use Rattle.site.specs.Table.{entry, plus}
+use Rattle.site.proofs.Whole.{drawn, entry-read}
+use Rattle.site.proofs.Adding.{free-order, free-room, free-drawn, links-push, roomy-push, table-push, room-for}
 use Rattle.site.proofs.builder.SiteBuilder.add.Needs as need
 
 pub push-reserved-requires : need.push-reserved-requires
@@ -35,23 +35,11 @@ ghost-self c =
     let eb : db ≡ plus (entry ns b) a =
     c .add-2 .ensures
     ∙ ap (λ (d : Node). plus d a) (entry-read (set ns a da) b n (c .index-mut-2 .result .now) (c .index-mut-2 .ensures .value) (o .1) (len ∙ sym (length-set ns a da)) ∙ getD-set-other ns a b da (record { degree = 0; ports = [] }) (λ h. omega (arith, o .0))) in
-    let cap = c .push-reserved .ensures .capacity in
-    let room = s .room in (
-      s .sized,
-      (
-        ordered-push n ls ms a b (o .0) (o .1) e (s .ordered),
-        (
-          single-push ls ms a b (free-new (draft s) a b (c .pre)) e (s .single),
-          (
-            roomy-push ns n ls a b da db (o .0) (o .1) len (s .roomy) (s .table) (r .0) (r .1) ea eb,
-            (
-              table-push ns n ls a b da db (o .0) (o .1) len (s .roomy) (s .table) (r .0) (r .1) ea eb ms e,
-              (omega arith, (s .arced, (s .spaced, (s .blank, tt)))),
-            ),
-          ),
-        ),
-      ),
-    )
+    let roomy = roomy-push ns n ls a b da db (o .0) (o .1) len (s .roomy) (s .table) (r .0) (r .1) ea eb in
+    let table = table-push ns n ls a b da db (o .0) (o .1) len (s .roomy) (s .table) (r .0) (r .1) ea eb ms e in
+    let room : 1024 ≤ vec-cap (c .push-reserved .last .self) = let k = c .push-reserved .ensures .capacity in let l = s .room in omega arith in
+    let m = ap (λ (xs : List (ℕ × ℕ)). record { nodes = n; root = s .root; links = xs }) (sym e) in
+    (∣ subst Drawn m (free-drawn (draft s) a b (c .pre) (drawn s)) ∣₁, (roomy, (table, (room, (s .arced, (s .spaced, (s .blank, tt)))))))
 
 pub returns : need.returns
 returns c =

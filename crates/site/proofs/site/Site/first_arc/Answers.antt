@@ -2,7 +2,7 @@ use mathlib.Core.Path.{sym, _∙_}
 use native.Mathlib.Omega.{arith}
 use Rattle.graph.proofs.Drawn.{arcs-past}
 use Rattle.site.specs.Sites.{model}
-use Rattle.site.proofs.Whole.{drawn-site}
+use Rattle.site.proofs.Whole.{proper}
 use Rattle.site.proofs.site.Site.first_arc.Needs as need
 
 pub returns-else-v-len : need.returns-else-v-len
@@ -11,4 +11,4 @@ returns-else-v-len c =
     let a = c .len .ensures in
     let b = s .arced in
     let d = c .if-v-len .left in
-    c .arcs .ensures .arcs ∙ sym (arcs-past (model s) (drawn-site s) (c .args .v) (omega arith))
+    c .arcs .ensures .arcs ∙ sym (arcs-past (model s) (proper s .drawn) (c .args .v) (omega arith))

@@ -8,4 +8,4 @@ use Rattle.site.proofs.site.Site.height.Needs as need
 pub returns : need.returns
 returns c =
     let s = c .args .self .now in
-    record { value = s .topped; greatest = subst (Greatest (model s)) (sym (s .topped)) (height-is (model s) (proper s)) }
+    record { value = s .highest; greatest = subst (Greatest (model s)) (sym (s .highest)) (height-is (model s) (proper s)) }
