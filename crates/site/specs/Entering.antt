@@ -50,6 +50,11 @@ Begun n r (Ok b) = Free (size-checks n r) × (draft b ≡ bare n r)
 Begun n r (Err (fault.Refused e)) = First (size-checks n r) e
 Begun n r (Err fault.Memory) = Free (size-checks n r)
 
+-- a builder was started in memory that was had before
+abbrev pub Started : ℕ → ℕ → Result SiteBuilder Refusal → Type 0
+Started n r (Ok b) = Free (size-checks n r) × (draft b ≡ bare n r)
+Started n r (Err e) = First (size-checks n r) e
+
 -- a link was entered, or declined and nothing changed: the draft before, the link, the answer, the draft after
 abbrev pub Entered : Model → ℕ → ℕ → Result (Unit {0}) Refusal → Model → Type 0
 Entered m a b (Ok u) z = Free (link-checks m a b) × (z ≡ with-link m a b)

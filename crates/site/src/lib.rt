@@ -6,4 +6,5 @@ pub mod levels;
 pub mod limits;
 pub mod link;
 pub mod node;
+pub mod room;
 pub mod site;

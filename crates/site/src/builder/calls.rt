@@ -6,7 +6,7 @@ ghost use Rattle.std.specs.Orderings.{Decides};
 ghost use Rattle.refusal.specs.Checks.{Free};
 ghost use Rattle.lists.specs.Members.{Among};
 ghost use Rattle.graph.specs.Model.{ports};
-ghost use Rattle.site.specs.Entering.{Begun, Checked, Entered, Finished, link-checks, with-link};
+ghost use Rattle.site.specs.Entering.{Begun, Checked, Entered, Finished, bare, link-checks, with-link};
 ghost use Rattle.site.specs.Sites.{draft};
 use super::SiteBuilder;
 use crate::fault::BuildFault;
@@ -101,6 +101,33 @@ impl SiteBuilder {
         self.nodes[a as usize].add(b);
         self.nodes[b as usize].add(a);
         self.links.push_reserved(Link { a, b });
+    }
+
+    /// The builder, without links, of its first nodes and with this root.
+    pub(crate) fn narrowed(self, nodes: usize, root: usize) -> SiteBuilder
+        requires unlinked { ⌜ length (draft self .links) ≡ 0 ⌝ }
+        requires some { ⌜ 1 ≤ nodes ⌝ }
+        requires fewer { ⌜ nodes ≤ draft self .nodes ⌝ }
+        requires rooted { ⌜ root < nodes ⌝ }
+        ensures { λ r. ⌜ draft r ≡ bare nodes root ⌝ }
+    {
+        let SiteBuilder {
+            root: _,
+            nodes: mut table,
+            links,
+            mut first_arcs,
+            mut distances,
+        } = self;
+        table.truncate(nodes);
+        first_arcs.truncate(nodes);
+        distances.truncate(nodes);
+        SiteBuilder {
+            root: root as u16,
+            nodes: table,
+            links,
+            first_arcs,
+            distances,
+        }
     }
 
     /// The finished site; `Unreached` if some node cannot be reached from the root.
