@@ -1,1 +1,4 @@
 pub mod FirstLaws
+pub mod MatchingRules
+pub mod MatchingPairs
+pub mod MatchingRising

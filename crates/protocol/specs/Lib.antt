@@ -1,3 +1,4 @@
 pub mod Outputs
 pub mod Protocols
 pub mod First
+pub mod Matching
