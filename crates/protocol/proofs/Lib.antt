@@ -2,3 +2,6 @@ pub mod FirstLaws
 pub mod MatchingRules
 pub mod MatchingPairs
 pub mod MatchingRising
+pub mod MatchingSettles
+pub mod MatchingRest
+pub mod MatchingLaws
