@@ -52,3 +52,58 @@ module _ (m : Model) (drawn : Drawn m) (t : ℕ → Output) (legitimate : Matche
       go (inl x) y = inl x
       go (inr x) (inl y) = inr y
       go (inr x) (inr y) = let o = drawn .ordered a b h in absurd (legitimate .full a b (omega (arith, o .0, o .1)) (joins-ports (m .links) a b h) x y)
+
+  mated-back : (l : ℕ × ℕ) → Mated m t l → (l .0 < l .1) × (l .1 < m .nodes) × (t (l .1) .mate ≡ Some (l .0))
+  mated-back l h = let o = drawn .ordered (l .0) (l .1) (h .0) in (o .0, o .1, legitimate .both (l .0) (l .1) (omega (arith, o .0, o .1)) (h .1))
+
+  -- two links between mates that share an end are the same; they are never the same link turned round
+  mated-apart : (k l : ℕ × ℕ) → Mated m t k → Mated m t l → Share k l → k ≡ l
+  mated-apart k l x y s = go s
+    where
+      i : (k .0 < k .1) × (k .1 < m .nodes) × (t (k .1) .mate ≡ Some (k .0))
+      i = mated-back k x
+
+      j : (l .0 < l .1) × (l .1 < m .nodes) × (t (l .1) .mate ≡ Some (l .0))
+      j = mated-back l y
+
+      same : (a b c d : ℕ) → t a .mate ≡ Some b → t c .mate ≡ Some d → a ≡ c → b ≡ d
+      same a b c d p q e = cc
+
+      go : Share k l → k ≡ l
+      go (inl e) = same-pair e (same (k .0) (k .1) (l .0) (l .1) (x .1) (y .1) e)
+      go (inr (inl e)) = absurd (omega (arith, same (k .0) (k .1) (l .1) (l .0) (x .1) (j .2) e, i .0, j .0))
+      go (inr (inr (inl e))) = absurd (omega (arith, same (k .1) (k .0) (l .0) (l .1) (i .2) (y .1) e, i .0, j .0))
+      go (inr (inr (inr e))) = same-pair (same (k .1) (k .0) (l .1) (l .0) (i .2) (j .2) e) e
+
+  -- in a matching that has all links between mates, every link is one of them, since it shares its covered end with one
+  mated-all : (ls : List (ℕ × ℕ)) → IsMatching m (λ l. Among l ls) → ((l : ℕ × ℕ) → Mated m t l → Among l ls) → (l : ℕ × ℕ) → Among l ls → Mated m t l
+  mated-all ls is all l h = elim (link-covered (l .0) (l .1) link) [
+    | inl e ↦ elim (mates-link (l .0) (e .0) (omega (arith, o .0, o .1)) (e .1)) [ inl x ↦ joins (l .0, e .0) x (inl refl) | inr x ↦ joins (e .0, l .0) x (inr (inl refl)) ]
+    | inr e ↦ elim (mates-link (l .1) (e .0) (o .1) (e .1)) [ inl x ↦ joins (l .1, e .0) x (inr (inr (inl refl))) | inr x ↦ joins (e .0, l .1) x (inr (inr (inr refl))) ]
+  ]
+    where
+      link : Among l (m .links)
+      link = is .links l h
+
+      o : (l .0 < l .1) × (l .1 < m .nodes)
+      o = drawn .ordered (l .0) (l .1) link
+
+      joins : (k : ℕ × ℕ) → Mated m t k → Share l k → Mated m t l
+      joins k x s = subst (Mated m t) (sym (is .apart l k h (all k x) s)) x
+
+  maximal-matching : MaximalMatching m t
+  maximal-matching = record {
+    joined = mates-link;
+    both = legitimate .both;
+    one = mates-one;
+    covered = link-covered;
+    matched = record { links = λ l h. h .0; apart = mated-apart };
+    maximal = mated-all;
+  }
+
+pub matching-stands : MatchingLaws
+matching-stands = record {
+  rules = rule-fits;
+  laws = matching-laws;
+  maximal = λ m proper t h. maximal-matching m (proper .drawn) t h;
+}
