@@ -4,4 +4,5 @@ pub mod MatchingPairs
 pub mod MatchingRising
 pub mod MatchingSettles
 pub mod MatchingRest
+pub mod MatchingMaximal
 pub mod MatchingLaws
