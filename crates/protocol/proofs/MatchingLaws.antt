@@ -11,7 +11,7 @@ use Rattle.protocol.specs.Matching.{new-register, register, turn, matching, Ma
 use Rattle.protocol.proofs.MatchingRules.{new-low, rule-fits}
 use Rattle.protocol.proofs.MatchingSettles.{rest-still, matching-settles}
 use Rattle.protocol.proofs.MatchingRest.{rest-matched, mate-told}
-use Rattle.protocol.proofs.MatchingMaximal.{maximal-matching}
+use Rattle.protocol.proofs.MatchingMaximal.{maximal-matching, maximal-matched}
 
 pub turn-keeps : (m : Model) (drawn : Drawn m) (v : ℕ) (xs : List ℕ) → Registers (m .nodes) xs → Registers (m .nodes) (turn m v xs)
 turn-keeps m drawn v xs h =
@@ -34,4 +34,5 @@ matching-stands = record {
   mates = mate-told;
   laws = matching-laws;
   maximal = λ m proper t h. maximal-matching m (proper .drawn) t h;
+  legitimate = λ m proper t h. maximal-matched m (proper .drawn) t h;
 }

@@ -1,4 +1,4 @@
--- Legitimate mates are a maximal matching of the site.
+-- Legitimate mates are the maximal matchings of the site.
 use mathlib.Core.Path.{_≡_, refl, sym, subst}
 use mathlib.Core.Logic.{_⊎_, inl, inr}
 use mathlib.Core.List.{List}
@@ -8,8 +8,8 @@ use Rattle.std.specs.declared.option.Option.{Option}
 use Rattle.std.specs.declared.option.Option.the-variants.{Some, None}
 use Rattle.lists.specs.Members.{Among}
 use Rattle.lists.proofs.Decisions.{same-pair}
-use Rattle.graph.specs.Model.{Model, Drawn}
-use Rattle.graph.proofs.Ports.{ports-joins, joins-ports}
+use Rattle.graph.specs.Model.{Model, ports, Drawn}
+use Rattle.graph.proofs.Ports.{ports-joins, joins-ports, joins-ports-back}
 use Rattle.protocol.specs.declared.Output.{Output}
 use Rattle.protocol.specs.Matching.{Matched, Share, IsMatching, Mated, MaximalMatching}
 
@@ -79,3 +79,19 @@ module _ (m : Model) (drawn : Drawn m) (t : ℕ → Output) (legitimate : Matche
     matched = record { links = λ l h. h .0; apart = mated-apart };
     maximal = mated-all;
   }
+
+-- a maximal matching is legitimate
+pub maximal-matched : (m : Model) (drawn : Drawn m) (t : ℕ → Output) → MaximalMatching m t → Matched m t
+maximal-matched m drawn t h = record { near = near; both = h .both; full = full }
+  where
+    near : (v u : ℕ) → v < m .nodes → t v .mate ≡ Some u → Among u (ports m v)
+    near v u l e = elim (h .joined v u l e) [ inl x ↦ joins-ports (m .links) v u (x .0) | inr x ↦ joins-ports-back (m .links) u v (x .0) (λ q. absurd (omega (arith, drawn .ordered u v (x .0) .0))) ]
+
+    clash : (o : Option ℕ) → (u : ℕ) × (o ≡ Some u) → o ≡ None → ⊥
+    clash o x y = let e = x .1 in let z : _≡_ {A = ℕ} 0 1 = cc in omega arith
+
+    full : (v u : ℕ) → v < m .nodes → Among u (ports m v) → t v .mate ≡ None → t u .mate ≡ None → ⊥
+    full v u l a x y = elim (ports-joins (m .links) u v a) [
+      | inl k ↦ elim (h .covered u v k) [ inl c ↦ clash (t u .mate) c y | inr c ↦ clash (t v .mate) c x ]
+      | inr k ↦ elim (h .covered v u k) [ inl c ↦ clash (t v .mate) c x | inr c ↦ clash (t u .mate) c y ]
+    ]
