@@ -1,13 +1,13 @@
 -- Least values, first elements that pass, stored nodes: what they tell.
 use mathlib.Core.Path.{_≡_, refl, sym, ap, subst, _∙_}
 use mathlib.Core.Logic.{_⊎_, inl, inr}
-use mathlib.Core.Bool.{Bool, true, false, cond}
+use mathlib.Core.Bool.{Bool, true, false}
 use mathlib.Core.List.{List, [], _∷_, _++_}
 use Prim.Native.Nat.{ℕ, zero, suc, _≤_, _<_, min}
 use native.Mathlib.Omega.{arith}
 use lib.Dec.{eqb}
 use Rattle.std.proofs.shelf.Tests.{cases-bool, both-ways}
-use Rattle.std.proofs.shelf.Ways.{eqb-tells}
+use Rattle.std.proofs.shelf.Ways.{eqb-tells, decides-eqb, decides-like, same-from-decides}
 use Rattle.std.specs.declared.option.Option.{Option}
 use Rattle.std.specs.declared.option.Option.the-variants.{Some, None}
 use Rattle.lists.specs.Members.{Among}
@@ -30,21 +30,9 @@ least-ge f k u (x ∷ (y ∷ ys)) h all =
     let a = all x (inl refl) in
     omega arith
 
--- two tests that agree on equal numbers
+-- two tests of equality that agree
 pub eqb-same : (a b c d : ℕ) → (a ≡ b → c ≡ d) → (c ≡ d → a ≡ b) → eqb a b ≡ eqb c d
-eqb-same a b c d f g = go (eqb-tells a b) (eqb-tells c d)
-  where
-    go : ((eqb a b ≡ true) × (a ≡ b)) ⊎ ((eqb a b ≡ false) × (a ≡ b → ⊥)) → ((eqb c d ≡ true) × (c ≡ d)) ⊎ ((eqb c d ≡ false) × (c ≡ d → ⊥)) → eqb a b ≡ eqb c d
-    go (inl x) (inl y) = x .0 ∙ sym (y .0)
-    go (inl x) (inr y) = absurd (y .1 (f (x .1)))
-    go (inr x) (inl y) = absurd (x .1 (g (y .1)))
-    go (inr x) (inr y) = x .0 ∙ sym (y .0)
-
-pub eqb-true : (a b : ℕ) → eqb a b ≡ true → a ≡ b
-eqb-true a b e = elim (eqb-tells a b) [ inl t ↦ t .1 | inr t ↦ absurd (both-ways (eqb a b) (t .0) e) ]
-
-pub eqb-false : (a b : ℕ) → eqb a b ≡ false → a ≡ b → ⊥
-eqb-false a b e q = elim (eqb-tells a b) [ inl t ↦ both-ways (eqb a b) e (t .0) | inr t ↦ t .1 q ]
+eqb-same a b c d f g = same-from-decides (eqb a b) (eqb c d) (decides-like (eqb a b) f g (decides-eqb a b)) (decides-eqb c d)
 
 pub mem-tells : (x : ℕ) (xs : List ℕ) → ((mem x xs ≡ true) × Among x xs) ⊎ ((mem x xs ≡ false) × (Among x xs → ⊥))
 mem-tells x [] = inr (refl, λ h. h)

@@ -1,4 +1,7 @@
 pub mod FirstLaws
+pub mod TreeParents
+pub mod TreeTurns
+pub mod TreeLaws
 pub mod MatchingRules
 pub mod MatchingPairs
 pub mod MatchingRising

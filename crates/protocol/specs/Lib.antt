@@ -1,4 +1,5 @@
 pub mod Outputs
 pub mod Protocols
 pub mod First
+pub mod Tree
 pub mod Matching
