@@ -8,7 +8,7 @@ ghost use Rattle.site.specs.Table.{Roomy, Table, site-of};
 use crate::link::Link;
 use crate::node::Node;
 
-pub mod calls;
+mod calls;
 
 /// A site whose links are being entered. Between calls the table of nodes is that of the links.
 #[derive(Drop)]

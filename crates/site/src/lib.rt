@@ -2,9 +2,9 @@
 pub mod build;
 pub mod builder;
 pub mod fault;
-pub mod levels;
+mod levels;
 pub mod limits;
 pub mod link;
-pub mod node;
+mod node;
 pub mod room;
 pub mod site;

@@ -9,4 +9,4 @@ pub struct Node {
     ports: [u16; PORTS],
 }
 
-pub mod calls;
+mod calls;

@@ -7,7 +7,7 @@ ghost use Rattle.site.specs.Table.{Roomy, Table, site-of};
 use crate::link::Link;
 use crate::node::Node;
 
-pub mod calls;
+mod calls;
 
 /// A finished site: every node is reached, and its ports, arcs and distances stand ready.
 #[derive(Drop)]
