@@ -1,0 +1,2 @@
+pub mod LayerForest
+pub mod LayerTurns
