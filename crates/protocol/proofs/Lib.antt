@@ -1,2 +1,5 @@
 pub mod LayerForest
 pub mod LayerTurns
+pub mod LayerLaws
+pub mod LayerOwned
+pub mod BesideLaws
