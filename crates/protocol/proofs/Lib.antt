@@ -6,3 +6,5 @@ pub mod BesideLaws
 pub mod GatherBlocks
 pub mod GatherLaws
 pub mod CountLaws
+pub mod RankSlots
+pub mod RankLaws
