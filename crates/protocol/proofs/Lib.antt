@@ -8,3 +8,7 @@ pub mod GatherLaws
 pub mod CountLaws
 pub mod RankSlots
 pub mod RankLaws
+pub mod FirstLaws
+pub mod TreeParents
+pub mod TreeTurns
+pub mod TreeLaws

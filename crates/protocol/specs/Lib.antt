@@ -5,3 +5,5 @@ pub mod Gather
 pub mod Count
 pub mod Rank
 pub mod Beside
+pub mod First
+pub mod Tree

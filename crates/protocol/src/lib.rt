@@ -1,4 +1,5 @@
 //! What a silent protocol means at a site, and the laws that every one owes; the meaning of ours, and their proofs.
+ghost use Rattle.protocol.specs.Tree.{TreeLaws};
 
 /// What a node tells.
 #[derive(Clone, Copy, PartialEq, Eq, Debug)]
@@ -11,4 +12,11 @@ pub struct Output {
     pub rank: u16,
     /// The neighbour that it is paired with, or none.
     pub mate: Option<u16>,
+}
+
+/// Carries the laws of Tree.
+pub fn tree_stands() -> u8
+    ensures { λ _. ⌜ TreeLaws ⌝ }
+{
+    0
 }
