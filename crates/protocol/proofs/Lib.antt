@@ -12,3 +12,6 @@ pub mod FirstLaws
 pub mod TreeParents
 pub mod TreeTurns
 pub mod TreeLaws
+pub mod MatchingRules
+pub mod MatchingPairs
+pub mod MatchingRising

@@ -7,3 +7,4 @@ pub mod Rank
 pub mod Beside
 pub mod First
 pub mod Tree
+pub mod Matching
