@@ -19,14 +19,7 @@ use Rattle.rounds.proofs.ChainLaws.{tall-depths}
 use Rattle.protocol.specs.declared.Output.{Output}
 use Rattle.protocol.specs.Outputs.{stored, Chain, Tall}
 use Rattle.protocol.specs.Layers.{Near, children-among, children}
-
-pub stored-none : (o : Option ℕ) → stored o ≡ 0 → o ≡ None
-stored-none None e = refl
-stored-none (Some u) e = absurd (omega arith)
-
-pub stored-some : (o : Option ℕ) (w : ℕ) → stored o ≡ suc w → o ≡ Some w
-stored-some None w e = absurd (omega arith)
-stored-some (Some u) w e = let q : u ≡ w = omega arith in ap Some q
+use Rattle.protocol.proofs.FirstLaws.{stored-none, stored-some}
 
 -- the parents that outputs tell, stored
 abbrev pub parents : (ℕ → Output) → ℕ → ℕ
