@@ -15,3 +15,4 @@ pub mod TreeLaws
 pub mod MatchingRules
 pub mod MatchingPairs
 pub mod MatchingRising
+pub mod RankPreorder
