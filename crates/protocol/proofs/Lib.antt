@@ -16,3 +16,6 @@ pub mod MatchingRules
 pub mod MatchingPairs
 pub mod MatchingRising
 pub mod RankPreorder
+pub mod MatchingSettles
+pub mod MatchingRest
+pub mod MatchingLaws

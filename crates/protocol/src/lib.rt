@@ -1,5 +1,9 @@
 //! What a silent protocol means at a site, and the laws that every one owes; the meaning of ours, and their proofs.
+<<<<<<< HEAD
 ghost use Rattle.protocol.specs.Tree.{TreeLaws};
+=======
+ghost use Rattle.protocol.specs.Matching.{MatchingLaws};
+>>>>>>> matching
 
 /// What a node tells.
 #[derive(Clone, Copy, PartialEq, Eq, Debug)]
@@ -14,9 +18,15 @@ pub struct Output {
     pub mate: Option<u16>,
 }
 
+<<<<<<< HEAD
 /// Carries the laws of Tree.
 pub fn tree_stands() -> u8
     ensures { λ _. ⌜ TreeLaws ⌝ }
+=======
+/// Carries the laws of the matching.
+pub fn matching_stands() -> u8
+    ensures { λ _. ⌜ MatchingLaws ⌝ }
+>>>>>>> matching
 {
     0
 }
