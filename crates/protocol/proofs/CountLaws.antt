@@ -13,7 +13,7 @@ use Rattle.protocol.specs.declared.Output.{Output}
 use Rattle.protocol.specs.Outputs.{Tall, with-count}
 use Rattle.protocol.specs.Protocols.{Protocol, Laws}
 use Rattle.protocol.specs.Layers.{Near, children, LayerLaws}
-use Rattle.protocol.specs.Gather.{join-all, Gathered, GatheringLaws}
+use Rattle.protocol.specs.Gather.{block, join-all, Gathered, GatheringLaws}
 use Rattle.protocol.specs.Count.{counting, CountsRight, counter, count}
 use Rattle.protocol.proofs.LayerForest.{parents, lists-children, ordered-children, children-sum, deep}
 use Rattle.protocol.proofs.LayerLaws.{layered-laws}
@@ -43,7 +43,7 @@ counting-laws m proper = record {
     small = λ x i k. let s = proper .drawn .limit in omega arith;
     loads = λ x f e. e 0 (omega arith) }
   where
-    room : (v i : ℕ) → v < m .nodes → i < 1 → Rattle.protocol.specs.Gather.block (m .nodes) i v < m .nodes
+    room : (v i : ℕ) → v < m .nodes → i < 1 → block (m .nodes) i v < m .nodes
     room v zero l k = l
     room v (suc i) l k = absurd (omega arith)
 

@@ -6,7 +6,7 @@ use Prim.Native.Nat.{ℕ, zero, suc, _+_, _≤_, _<_}
 use native.Mathlib.Omega.{arith}
 use Rattle.std.specs.declared.option.Option.the-variants.{Some, None}
 use Rattle.graph.specs.Model.{Model, Proper}
-use Rattle.rounds.specs.Runs.{From}
+use Rattle.rounds.specs.Runs.{run, From}
 use Rattle.rounds.proofs.RunsLaws.{compose, from-more}
 use Rattle.protocol.specs.declared.Output.{Output}
 use Rattle.protocol.specs.Outputs.{Chain, Tall}
@@ -47,7 +47,7 @@ module _ (m : Model) (a : Layer) (p : Protocol) (proper : Proper m) (own : Layer
       (subst (p .Rest) (sym (t .1)) (r .1), subst (λ z. Fixed m a (p .output z) (over p (layered-run xs ts))) (sym (t .1)) (subst (Fixed m a (p .output below)) (sym (t .0)) o))
     where
       layered-run : List ℕ → List ℕ → List ℕ
-      layered-run xs ts = Rattle.rounds.specs.Runs.run (layered m a p .turn) ts xs
+      layered-run xs ts = run (layered m a p .turn) ts xs
 
   first-settles : From (layered m a p .turn) (m .nodes) Full (p .bound) (λ xs. Full xs × p .Rest (under p xs))
   first-settles xs ts r b k =

@@ -1,10 +1,11 @@
 pub mod Outputs
 pub mod Protocols
+pub mod First
+pub mod Tree
+pub mod Matching
 pub mod Layers
 pub mod Gather
 pub mod Count
 pub mod Rank
 pub mod Beside
-pub mod First
-pub mod Tree
-pub mod Matching
+pub mod Stack
