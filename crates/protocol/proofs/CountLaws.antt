@@ -39,22 +39,24 @@ module _ (m : Model) (proper : Proper m) (t : ℕ → Output) (near : Near m t) 
 
 counting-laws : (m : Model) → Proper m → GatheringLaws m (counting m)
 counting-laws m proper = record {
-    room = λ v i l k. room v i l k;
-    small = λ x i k. let s = proper .drawn .limit in omega arith;
-    loads = λ x f e. e 0 (omega arith) }
+  room = λ v i l k. room v i l k;
+  small = λ x i k. let s = proper .drawn .limit in omega arith;
+  loads = λ x f e. e 0 (omega arith);
+}
   where
     room : (v i : ℕ) → v < m .nodes → i < 1 → block (m .nodes) i v < m .nodes
     room v zero l k = l
     room v (suc i) l k = absurd (omega arith)
 
+-- numbers that are gathered from one another are right as counts
+pub gathered-counts : (m : Model) → Proper m → (t : ℕ → Output) (h : ℕ) (f : ℕ → ℕ) → Near m t → Tall (m .nodes) t h → Gathered m (counting m) t f → CountsRight m (λ v. with-count (t v) (f v))
+gathered-counts m proper t h f near tall rule v l =
+    let e = deep m (proper .drawn) t near h tall in
+    let s = sizes-exist (m .nodes) (parents t) (e .0) (e .1) in
+    subst (Counted (In (parents t) v) (m .nodes)) (sym (counts-are m proper t near h (e .0) (s .0) (e .1) (e .2) (s .1) f rule (suc h) v l (omega arith))) (s .1 v l)
+
 pub counter-laws : (m : Model) → Proper m → LayerLaws m (counter m)
-counter-laws m proper = gatherer-laws m (counting m) with-count (CountsRight m) proper (counting-laws m proper) (λ o x. refl) (λ o. (o .count, λ x. refl)) meets
-  where
-    meets : (t : ℕ → Output) (h : ℕ) (f : ℕ → ℕ) → Near m t → Tall (m .nodes) t h → Gathered m (counting m) t f → CountsRight m (λ v. with-count (t v) (f v))
-    meets t h f near tall rule v l =
-        let e = deep m (proper .drawn) t near h tall in
-        let s = sizes-exist (m .nodes) (parents t) (e .0) (e .1) in
-        subst (Counted (In (parents t) v) (m .nodes)) (sym (counts-are m proper t near h (e .0) (s .0) (e .1) (e .2) (s .1) f rule (suc h) v l (omega arith))) (s .1 v l)
+counter-laws m proper = gatherer-laws m (counting m) with-count (CountsRight m) proper (counting-laws m proper) (λ o x. refl) (λ o. (o .count, λ x. refl)) (gathered-counts m proper)
 
 pub count-laws : (m : Model) (p : Protocol) → Proper m → Laws m p → Laws m (count m p)
 count-laws m p proper law = layered-laws m (counter m) p proper (counter-laws m proper) law

@@ -37,8 +37,9 @@ module _ (n v : ℕ) (f : ℕ → ℕ) where
   write-at zero i xs l lt room = absurd (omega arith)
   write-at (suc k) i xs l lt room =
       elim (cases-eq i k) [
-        inl e ↦ subst (λ j. getD (write n (suc k) v f xs) (block n j v) 0 ≡ f j) (sym e) (getD-set-same (write n k v f xs) (block n k v) (f k) 0 (let s = write-length k xs in let r = subst (λ j. block n j v < length xs) e room in omega arith))
-      | inr e ↦ getD-set-other (write n k v f xs) (block n k v) (block n i v) (f k) 0 (λ q. e (block-same n i k v l q)) ∙ write-at k i xs l (omega arith) room ]
+        | inl e ↦ subst (λ j. getD (write n (suc k) v f xs) (block n j v) 0 ≡ f j) (sym e) (getD-set-same (write n k v f xs) (block n k v) (f k) 0 (let s = write-length k xs in let r = subst (λ j. block n j v < length xs) e room in omega arith))
+        | inr e ↦ getD-set-other (write n k v f xs) (block n k v) (block n i v) (f k) 0 (λ q. e (block-same n i k v l q)) ∙ write-at k i xs l (omega arith) room
+      ]
 
   pub write-registers : (k size : ℕ) (xs : List ℕ) → ((i : ℕ) → i < k → f i < 65536) → Registers size xs → Registers size (write n k v f xs)
   write-registers k size xs small r = (write-length k xs ∙ r .0, all-write k small)

@@ -66,14 +66,15 @@ module _ (m : Model) (g : Gathering) (proper : Proper m) (law : GatheringLaws m 
 
     gather-owned : Owned (m .nodes) h step Ok place Mine (g .Reading) sees
     gather-owned = record {
-        low = λ v l. omega arith;
-        kept = λ v xs l ok. gather-keeps v xs ok;
-        same-length = λ v xs. write-length (m .nodes) v (g .store (sees v xs)) (g .width) xs;
-        mine? = λ v i. below? (λ j. i ≡ block (m .nodes) j v) (λ j. cases-eq i (block (m .nodes) j v)) (g .width);
-        separate = λ v u i l k ne a b. block-apart (m .nodes) (a .0) (b .0) v u l k (λ e. ne (sym e)) (sym (a .2) ∙ b .2);
-        others = λ v i xs l ne. step-other v i xs ne;
-        mine = λ v i xs ys l ok ko e a. subst (λ z. getD (step v xs) z 0 ≡ getD (step v ys) z 0) (sym (a .2)) (step-at v (a .0) xs l ok (a .1) ∙ ap (λ x. g .store x (a .0)) e ∙ sym (step-at v (a .0) ys l ko (a .1)));
-        seen = λ v u xs l k p ok. seen v u xs l k p }
+      low = λ v l. omega arith;
+      kept = λ v xs l ok. gather-keeps v xs ok;
+      same-length = λ v xs. write-length (m .nodes) v (g .store (sees v xs)) (g .width) xs;
+      mine? = λ v i. below? (λ j. i ≡ block (m .nodes) j v) (λ j. cases-eq i (block (m .nodes) j v)) (g .width);
+      separate = λ v u i l k ne a b. block-apart (m .nodes) (a .0) (b .0) v u l k (λ e. ne (sym e)) (sym (a .2) ∙ b .2);
+      others = λ v i xs l ne. step-other v i xs ne;
+      mine = λ v i xs ys l ok ko e a. subst (λ z. getD (step v xs) z 0 ≡ getD (step v ys) z 0) (sym (a .2)) (step-at v (a .0) xs l ok (a .1) ∙ ap (λ x. g .store x (a .0)) e ∙ sym (step-at v (a .0) ys l ko (a .1)));
+      seen = λ v u xs l k p ok. seen v u xs l k p;
+    }
 
   pub gather-settles : (near : Near m t) (h : ℕ) → Tall (m .nodes) t h → From step (m .nodes) Ok (suc h) (λ xs. (v : ℕ) → v < m .nodes → step v xs ≡ xs)
   gather-settles near h tall xs ts ok b k =
@@ -91,8 +92,9 @@ pub gatherer-laws : (m : Model) (g : Gathering) (tell : Output → g .Reading �
     → ((t : ℕ → Output) (h : ℕ) (f : ℕ → g .Reading) → Near m t → Tall (m .nodes) t h → Gathered m g t f → Meets (λ v. tell (t v) (f v)))
     → LayerLaws m (gatherer m g tell Meets)
 gatherer-laws m g tell Meets proper law passes back meets = record {
-    keeps = λ t v xs l ok. gather-keeps m g proper law t v xs ok;
-    passes = passes;
-    back = back;
-    settles = λ t h near tall. gather-settles m g proper law t near h tall;
-    meets = λ t h xs near tall ok fix. meets t h (reading m g xs) near tall (rest-gathered m g proper law t xs ok fix) }
+  keeps = λ t v xs l ok. gather-keeps m g proper law t v xs ok;
+  passes = passes;
+  back = back;
+  settles = λ t h near tall. gather-settles m g proper law t near h tall;
+  meets = λ t h xs near tall ok fix. meets t h (reading m g xs) near tall (rest-gathered m g proper law t xs ok fix);
+}

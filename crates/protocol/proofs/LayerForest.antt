@@ -35,21 +35,24 @@ stored-chain t (suc k) v c = (c .0, stored-some (t v .parent) (c .0) (c .1), sto
 
 pub tall-stored : (n h : ℕ) (t : ℕ → Output) → Tall n t h → F.Tall n (parents t) h
 tall-stored n h t a = record {
-    low = λ v l. let c = a .most v l in (c .0, c .1, chain-stored t (c .0) v (c .2));
-    high = let c = a .longest in (c .0, c .1, chain-stored t h (c .0) (c .2)) }
+  low = λ v l. let c = a .most v l in (c .0, c .1, chain-stored t (c .0) v (c .2));
+  high = let c = a .longest in (c .0, c .1, chain-stored t h (c .0) (c .2));
+}
 
 pub stored-tall : (n h : ℕ) (t : ℕ → Output) → F.Tall n (parents t) h → Tall n t h
 stored-tall n h t a = record {
-    most = λ v l. let c = a .low v l in (c .0, c .1, stored-chain t (c .0) v (c .2));
-    longest = let c = a .high in (c .0, c .1, stored-chain t h (c .0) (c .2)) }
+  most = λ v l. let c = a .low v l in (c .0, c .1, stored-chain t (c .0) v (c .2));
+  longest = let c = a .high in (c .0, c .1, stored-chain t h (c .0) (c .2));
+}
 
 module _ (t : ℕ → Output) (v : ℕ) where
   pub among-children : (c : ℕ) (xs : List ℕ) → Among c (children-among t v xs) → Among c xs × (parents t c ≡ suc v)
   among-children c [] m = absurd m
   among-children c (x ∷ xs) m =
       elim (eqb-tells (parents t x) (suc v)) [
-        inl e ↦ elim (rw (e .0) at m) [ inl q ↦ (inl q, ap (parents t) q ∙ e .1) | inr q ↦ (let r = among-children c xs q in (inr (r .0), r .1)) ]
-      | inr e ↦ (let r = among-children c xs (rw (e .0) at m) in (inr (r .0), r .1)) ]
+        | inl e ↦ elim (rw (e .0) at m) [ inl q ↦ (inl q, ap (parents t) q ∙ e .1) | inr q ↦ (let r = among-children c xs q in (inr (r .0), r .1)) ]
+        | inr e ↦ (let r = among-children c xs (rw (e .0) at m) in (inr (r .0), r .1))
+      ]
 
   pub children-all : (c : ℕ) (xs : List ℕ) → Among c xs → parents t c ≡ suc v → Among c (children-among t v xs)
   children-all c [] m p = absurd m
@@ -80,15 +83,17 @@ module _ (m : Model) (drawn : Drawn m) (t : ℕ → Output) (near : Near m t) wh
 
   pub lists-children : (v : ℕ) → Lists (m .nodes) (parents t) v (ports m v)
   lists-children v = record {
-      once = ports-once m drawn v;
-      nodes = λ c k. inside m drawn c v k .1;
-      all = λ c l e. child-port c v l e }
+    once = ports-once m drawn v;
+    nodes = λ c k. inside m drawn c v k .1;
+    all = λ c l e. child-port c v l e;
+  }
 
   pub ordered-children : Ordered (m .nodes) (parents t) (children m t)
   ordered-children = record {
-      once = λ v l. children-once t v (ports m v) (ports-once m drawn v);
-      child = λ v c l k. let r = among-children t v c (ports m v) k in (inside m drawn c v (r .0) .1, r .1);
-      all = λ v c l k e. children-all t v c (ports m v) (child-port c v k e) e }
+    once = λ v l. children-once t v (ports m v) (ports-once m drawn v);
+    child = λ v c l k. let r = among-children t v c (ports m v) k in (inside m drawn c v (r .0) .1, r .1);
+    all = λ v c l k e. children-all t v c (ports m v) (child-port c v k e) e;
+  }
 
   pub deep : (h : ℕ) → Tall (m .nodes) t h → (d : ℕ → ℕ) × Depths (m .nodes) (parents t) d × Greatest (m .nodes) d h
   deep h a = tall-depths (m .nodes) (parents t) h parents-inside (tall-stored (m .nodes) h t a)

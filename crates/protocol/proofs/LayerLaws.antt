@@ -21,8 +21,9 @@ chain-same s t e (suc k) v c = (c .0, e v ∙ c .1, chain-same s t e k (c .0) (c
 
 pub tall-same : (s t : ℕ → Output) → ((v : ℕ) → s v .parent ≡ t v .parent) → (n h : ℕ) → Tall n t h → Tall n s h
 tall-same s t e n h a = record {
-    most = λ v l. let c = a .most v l in (c .0, c .1, chain-same s t e (c .0) v (c .2));
-    longest = let c = a .longest in (c .0, c .1, chain-same s t e h (c .0) (c .2)) }
+  most = λ v l. let c = a .most v l in (c .0, c .1, chain-same s t e (c .0) v (c .2));
+  longest = let c = a .longest in (c .0, c .1, chain-same s t e h (c .0) (c .2));
+}
 
 module _ (m : Model) (a : Layer) (p : Protocol) (proper : Proper m) (own : LayerLaws m a) (law : Laws m p) where
   abbrev rule : ℕ → List ℕ → List ℕ → List ℕ
@@ -50,9 +51,10 @@ module _ (m : Model) (a : Layer) (p : Protocol) (proper : Proper m) (own : Layer
       layered-run xs ts = run (layered m a p .turn) ts xs
 
   first-settles : From (layered m a p .turn) (m .nodes) Full (p .bound) (λ xs. Full xs × p .Rest (under p xs))
-  first-settles xs ts r b k =
-      (run-keeps (m .nodes) (a .size) p rule (law .keeps) keeps-rule ts xs b r,
-       subst (p .Rest) (sym (run-under (m .nodes) (a .size) p rule (law .keeps) keeps-rule ts xs b r)) (law .settles (under p xs) ts (registers-front (p .size) (a .size) xs r) b k))
+  first-settles xs ts r b k = (
+    run-keeps (m .nodes) (a .size) p rule (law .keeps) keeps-rule ts xs b r,
+    subst (p .Rest) (sym (run-under (m .nodes) (a .size) p rule (law .keeps) keeps-rule ts xs b r)) (law .settles (under p xs) ts (registers-front (p .size) (a .size) xs r) b k),
+  )
 
   pub layered-settles : From (layered m a p .turn) (m .nodes) Full (p .bound + (p .height + 1)) (layered m a p .Rest)
   layered-settles = compose (List ℕ) (layered m a p .turn) Full (λ xs. Full xs × p .Rest (under p xs)) (layered m a p .Rest) (m .nodes) (p .bound) (p .height + 1) (let s = proper .drawn .some in omega arith) first-settles settles-over
@@ -63,16 +65,20 @@ module _ (m : Model) (a : Layer) (p : Protocol) (proper : Proper m) (own : Layer
   right-over : (xs : List ℕ) → Full xs → layered m a p .Rest xs → layered m a p .Legitimate (layered m a p .output xs)
   right-over xs r s =
       let t = p .output (under p xs) in
-      let full = registers-front (p .size) (a .size) xs r in
-      (own .meets t (p .height) (over p xs) (near-under (under p xs) full) (law .tall (under p xs) full (s .0)) (registers-back (p .size) (a .size) xs r) (s .1),
-       ((λ v. own .back (t v) .0),
-        subst (p .Legitimate) (sym (fun-ext (λ v. own .back (t v) .1 (a .value (over p xs) v)))) (law .right (under p xs) full (s .0))))
+      let full = registers-front (p .size) (a .size) xs r in (
+        own .meets t (p .height) (over p xs) (near-under (under p xs) full) (law .tall (under p xs) full (s .0)) (registers-back (p .size) (a .size) xs r) (s .1),
+        (
+          (λ v. own .back (t v) .0),
+          subst (p .Legitimate) (sym (fun-ext (λ v. own .back (t v) .1 (a .value (over p xs) v)))) (law .right (under p xs) full (s .0)),
+        ),
+      )
 
   pub layered-laws : Laws m (layered m a p)
   layered-laws = record {
-      keeps = λ v xs l r. then-keeps (m .nodes) (a .size) p rule (law .keeps) keeps-rule v xs l r;
-      near = λ xs v u l r e. law .near (under p xs) v u l (registers-front (p .size) (a .size) xs r) (sym (same-parents xs v) ∙ e);
-      still = λ xs r s v l. then-still p rule v xs (law .still (under p xs) (registers-front (p .size) (a .size) xs r) (s .0) v l) (s .1 v l);
-      right = right-over;
-      settles = λ xs ts r b k. layered-settles xs ts r b k;
-      tall = λ xs r s. tall-same (layered m a p .output xs) (p .output (under p xs)) (same-parents xs) (m .nodes) (p .height) (law .tall (under p xs) (registers-front (p .size) (a .size) xs r) (s .0)) }
+    keeps = λ v xs l r. then-keeps (m .nodes) (a .size) p rule (law .keeps) keeps-rule v xs l r;
+    near = λ xs v u l r e. law .near (under p xs) v u l (registers-front (p .size) (a .size) xs r) (sym (same-parents xs v) ∙ e);
+    still = λ xs r s v l. then-still p rule v xs (law .still (under p xs) (registers-front (p .size) (a .size) xs r) (s .0) v l) (s .1 v l);
+    right = right-over;
+    settles = λ xs ts r b k. layered-settles xs ts r b k;
+    tall = λ xs r s. tall-same (layered m a p .output xs) (p .output (under p xs)) (same-parents xs) (m .nodes) (p .height) (law .tall (under p xs) (registers-front (p .size) (a .size) xs r) (s .0));
+  }

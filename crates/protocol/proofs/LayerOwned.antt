@@ -31,8 +31,9 @@ module _ (n h : ℕ) (step : ℕ → List ℕ → List ℕ) (Ok : List ℕ → T
   apart v u xs l k ne p ok e =
       ext-getD 0 (step v (step u xs)) (step u xs) (own .same-length v (step u xs))
       (λ i _. elim (own .mine? v i) [
-        inl a ↦ own .mine v i (step u xs) xs l (own .kept u xs k ok) ok (own .seen v u xs l k p ok) a ∙ ap (λ z. getD z i 0) e ∙ sym (own .others u i xs k (λ b. own .separate v u i l k ne a b))
-      | inr a ↦ own .others v i (step u xs) l a ])
+        | inl a ↦ own .mine v i (step u xs) xs l (own .kept u xs k ok) ok (own .seen v u xs l k p ok) a ∙ ap (λ z. getD z i 0) e ∙ sym (own .others u i xs k (λ b. own .separate v u i l k ne a b))
+        | inr a ↦ own .others v i (step u xs) l a
+      ])
 
   pub owned-settles : 0 < n → From step n Ok (suc h) (λ xs. Ok xs × ((v : ℕ) → v < n → step v xs ≡ xs))
   owned-settles pos = fixpoint (List ℕ) step Ok n h place pos (own .low) (own .kept) again apart

@@ -72,6 +72,7 @@ module _ (n q : ℕ) (p : Protocol) (own : ℕ → List ℕ → List ℕ → Lis
 
     -- side by side, both settle within the greater number of rounds
     pub apart-settles : (P Q : List ℕ → Type 0) (a b : ℕ) → From (p .turn) n (Registers (p .size)) a P → From step n (Registers q) b Q → From turn n Full (max a b) (λ xs. P (under p xs) × Q (over p xs))
-    apart-settles P Q a b f g xs ts r w k =
-        (subst P (sym (run-under ts xs w r)) (from-more (List ℕ) (p .turn) (Registers (p .size)) P n a (max a b) (omega arith) f (under p xs) ts (registers-front (p .size) q xs r) w k),
-         subst Q (sym (run-apart ts xs w r)) (from-more (List ℕ) step (Registers q) Q n b (max a b) (omega arith) g (over p xs) ts (registers-back (p .size) q xs r) w k))
+    apart-settles P Q a b f g xs ts r w k = (
+      subst P (sym (run-under ts xs w r)) (from-more (List ℕ) (p .turn) (Registers (p .size)) P n a (max a b) (omega arith) f (under p xs) ts (registers-front (p .size) q xs r) w k),
+      subst Q (sym (run-apart ts xs w r)) (from-more (List ℕ) step (Registers q) Q n b (max a b) (omega arith) g (over p xs) ts (registers-back (p .size) q xs r) w k),
+    )

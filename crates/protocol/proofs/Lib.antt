@@ -21,3 +21,4 @@ pub mod RankPreorder
 pub mod BesideLaws
 pub mod StackAgree
 pub mod StackLaws
+pub mod CasesLaws

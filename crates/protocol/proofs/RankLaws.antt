@@ -100,22 +100,25 @@ module _ (m : Model) (proper : Proper m) (t : ℕ → Output) where
 
     rank-owned : Owned (m .nodes) h step Ok d Mine ℕ new
     rank-owned = record {
-        low = great .0;
-        kept = λ v xs l ok. rank-keeps v xs ok;
-        same-length = step-length;
-        mine? = λ v i. either? (cases-eq i v) (both? (le? (m .nodes + arcs-before m v) i) (lt? i (m .nodes + arcs-before m v + length (ports m v))));
-        separate = separate;
-        others = λ v i xs l ne. step-other v i xs ne;
-        mine = step-mine;
-        seen = λ v u xs l k p ok. seen v u xs l k p }
+      low = great .0;
+      kept = λ v xs l ok. rank-keeps v xs ok;
+      same-length = step-length;
+      mine? = λ v i. either? (cases-eq i v) (both? (le? (m .nodes + arcs-before m v) i) (lt? i (m .nodes + arcs-before m v + length (ports m v))));
+      separate = separate;
+      others = λ v i xs l ne. step-other v i xs ne;
+      mine = step-mine;
+      seen = λ v u xs l k p ok. seen v u xs l k p;
+    }
 
     rank-met : (xs : List ℕ) → Ok xs → ((v : ℕ) → v < m .nodes → step v xs ≡ xs) → RanksRight m (told-by (ranker m) t xs)
     rank-met xs ok fix = record {
-        top = λ v l e. held v l ∙ ap (λ o. rank-from m o v xs) e;
-        next = next }
+      top = λ v l e. held v l ∙ ap (λ o. rank-from m o v xs) e;
+      next = next;
+    }
       where
         held : (v : ℕ) → v < m .nodes → getD xs v 0 ≡ new v xs
         held v l = ap (λ z. getD z v 0) (sym (fix v l)) ∙ step-rank v xs l ok
+
         next : (v w : ℕ) → v < m .nodes → t v .parent ≡ Some w → getD xs v 0 ≡ min (m .nodes) (getD xs w 0 + 1 + counts-before m t w v)
         next v w l e =
             let p : parents t v ≡ suc w = ap stored e in
@@ -136,11 +139,12 @@ module _ (m : Model) (proper : Proper m) (t : ℕ → Output) where
 
 pub ranker-laws : (m : Model) → Proper m → LayerLaws m (ranker m)
 ranker-laws m proper = record {
-    keeps = λ t v xs l ok. rank-keeps m proper t v xs ok;
-    passes = λ o x. refl;
-    back = λ o. (o .rank, λ x. refl);
-    settles = λ t h near tall. ranks-settle m proper t near h tall;
-    meets = λ t h xs near tall ok fix. ranks-met m proper t h xs near tall ok fix }
+  keeps = λ t v xs l ok. rank-keeps m proper t v xs ok;
+  passes = λ o x. refl;
+  back = λ o. (o .rank, λ x. refl);
+  settles = λ t h near tall. ranks-settle m proper t near h tall;
+  meets = λ t h xs near tall ok fix. ranks-met m proper t h xs near tall ok fix;
+}
 
 pub rank-laws : (m : Model) (p : Protocol) → Proper m → Laws m p → Laws m (rank m p)
 rank-laws m p proper law = layered-laws m (ranker m) p proper (ranker-laws m proper) law

@@ -40,10 +40,12 @@ children-split : (t : ℕ → Output) (w v : ℕ) (xs : List ℕ) → Among v xs
 children-split t w v [] m p = absurd m
 children-split t w v (x ∷ xs) m p =
     elim (eqb-tells x v) [
-      inl q ↦ (let e : eqb (parents t x) (suc w) ≡ true = child x (q .1) in (children-among t w xs, rw (q .0, e) (ap (λ z. z ∷ children-among t w xs) (q .1))))
-    | inr q ↦ elim m [
-        inl z ↦ absurd (q .1 (sym z))
-      | inr z ↦ (let r = children-split t w v xs z p in elim (eqb-tells (parents t x) (suc w)) [ inl e ↦ (r .0, rw (q .0, e .0) (ap (λ y. x ∷ y) (r .1))) | inr e ↦ (r .0, rw (q .0, e .0) (r .1)) ]) ] ]
+      | inl q ↦ (let e : eqb (parents t x) (suc w) ≡ true = child x (q .1) in (children-among t w xs, rw (q .0, e) (ap (λ z. z ∷ children-among t w xs) (q .1))))
+      | inr q ↦ elim m [
+        | inl z ↦ absurd (q .1 (sym z))
+        | inr z ↦ (let r = children-split t w v xs z p in elim (eqb-tells (parents t x) (suc w)) [ inl e ↦ (r .0, rw (q .0, e .0) (ap (λ y. x ∷ y) (r .1))) | inr e ↦ (r .0, rw (q .0, e .0) (r .1)) ])
+      ]
+    ]
   where
     child : (x : ℕ) → x ≡ v → eqb (parents t x) (suc w) ≡ true
     child x q = elim (eqb-tells (parents t x) (suc w)) [ inl e ↦ e .0 | inr e ↦ absurd (e .1 (ap (parents t) q ∙ p)) ]
@@ -67,8 +69,9 @@ module _ (m : Model) (proper : Proper m) (t : ℕ → Output) (near : Near m t) 
   room zero v l h = absurd (omega arith)
   room (suc k) v l h =
       elim (none-or (t v .parent)) [
-        inl e ↦ (let a = ranks .top v l e in let b = size-low (m .nodes) (parents t) count counts v l in omega arith)
-      | inr e ↦ (let s = share v (e .0) l (ap stored (e .1)) in let r = room k (e .0) (s .0) (omega (arith, s .1)) in let a = ranks .next v (e .0) l (e .1) in omega (arith, s .2)) ]
+        | inl e ↦ (let a = ranks .top v l e in let b = size-low (m .nodes) (parents t) count counts v l in omega arith)
+        | inr e ↦ (let s = share v (e .0) l (ap stored (e .1)) in let r = room k (e .0) (s .0) (omega (arith, s .1)) in let a = ranks .next v (e .0) l (e .1) in omega (arith, s .2))
+      ]
     where
       none-or : (o : Option ℕ) → (o ≡ None) ⊎ ((w : ℕ) × (o ≡ Some w))
       none-or None = inl refl
@@ -76,8 +79,9 @@ module _ (m : Model) (proper : Proper m) (t : ℕ → Output) (near : Near m t) 
 
   pub ranked : Ranked (m .nodes) (parents t) (children m t) count (λ v. t v .rank)
   ranked = record {
-      top = λ v l e. ranks .top v l (stored-none (t v .parent) e);
-      next = next }
+    top = λ v l e. ranks .top v l (stored-none (t v .parent) e);
+    next = next;
+  }
     where
       next : (v w : ℕ) (before later : List ℕ) → v < m .nodes → w < m .nodes → parents t v ≡ suc w → children m t w ≡ before ++ (v ∷ later) → t v .rank ≡ t w .rank + 1 + sumOver count before
       next v w before later l k e q =

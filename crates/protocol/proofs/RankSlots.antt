@@ -48,12 +48,15 @@ module _ (n : ℕ) (t : ℕ → Output) (w : ℕ) where
   slot-at v [] r m p = absurd m
   slot-at v (x ∷ xs) r m p =
       elim (eqb-tells x v) [
-        inl q ↦ (let e : eqb (parents t x) (suc w) ≡ true = yes-child x (q .1) in rw (q .0, e) (omega arith))
-      | inr q ↦ elim m [
-          inl z ↦ absurd (q .1 (sym z))
-        | inr z ↦ elim (eqb-tells (parents t x) (suc w)) [
-            inl e ↦ rw (q .0, e .0) (slot-at v xs (r + t x .count) z p ∙ omega arith)
-          | inr e ↦ rw (q .0, e .0) (slot-at v xs r z p) ] ] ]
+        | inl q ↦ (let e : eqb (parents t x) (suc w) ≡ true = yes-child x (q .1) in rw (q .0, e) (omega arith))
+        | inr q ↦ elim m [
+          | inl z ↦ absurd (q .1 (sym z))
+          | inr z ↦ elim (eqb-tells (parents t x) (suc w)) [
+            | inl e ↦ rw (q .0, e .0) (slot-at v xs (r + t x .count) z p ∙ omega arith)
+            | inr e ↦ rw (q .0, e .0) (slot-at v xs r z p)
+          ]
+        ]
+      ]
     where
       yes-child : (x : ℕ) → x ≡ v → eqb (parents t x) (suc w) ≡ true
       yes-child x q = elim (eqb-tells (parents t x) (suc w)) [ inl e ↦ e .0 | inr e ↦ absurd (e .1 (ap (parents t) q ∙ p)) ]

@@ -35,9 +35,9 @@ pub sized-same : (n : ℕ) (par rap f g : ℕ → ℕ) → Inside n par → ((v 
 sized-same n par rap f g ins e q sized v l =
     subst (Counted (In rap v) n) (q v l)
     (counted-map (In par v) (In rap v) n (f v)
-     (λ u k i. (i .0, up-same n par rap ins e (i .0) u v k (i .1) .1))
-     (λ u k i. (i .0, up-same n rap par (λ v w h r. ins v w h (e v h ∙ r)) (λ v h. sym (e v h)) (i .0) u v k (i .1) .1))
-     (sized v l))
+    (λ u k i. (i .0, up-same n par rap ins e (i .0) u v k (i .1) .1))
+    (λ u k i. (i .0, up-same n rap par (λ v w h r. ins v w h (e v h ∙ r)) (λ v h. sym (e v h)) (i .0) u v k (i .1) .1))
+    (sized v l))
 
 among-take : (k : ℕ) (xs : List ℕ) (c : ℕ) → Among c (take k xs) → Among c xs
 among-take zero xs c m = absurd m
@@ -69,22 +69,24 @@ module _ (m : Model) (drawn : Drawn m) (s t : ℕ → Output) (near : Near m s) 
 
     pub ranks-same : ((v : ℕ) → v < m .nodes → s v .rank ≡ t v .rank) → RanksRight m s → RanksRight m t
     ranks-same e r = record {
-        top = λ v l q. sym (e v l) ∙ r .top v l (same v l ∙ q);
-        next = λ v w l q.
+      top = λ v l q. sym (e v l) ∙ r .top v l (same v l ∙ q);
+      next = λ v w l q.
           let p = same v l ∙ q in
           let k = inside m drawn w v (near v w l p) .1 in
-          sym (e v l) ∙ r .next v w l p ∙ ap₂ (λ x y. min (m .nodes) (x + 1 + y)) (e w k) (before-same w v) }
+          sym (e v l) ∙ r .next v w l p ∙ ap₂ (λ x y. min (m .nodes) (x + 1 + y)) (e w k) (before-same w v);
+    }
 
     pub ranks-one : (d : ℕ → ℕ) → Depths (m .nodes) (parents s) d → RanksRight m s → RanksRight m t → (k v : ℕ) → v < m .nodes → d v < k → s v .rank ≡ t v .rank
     ranks-one d depths a b zero v l h = absurd (omega arith)
     ranks-one d depths a b (suc k) v l h =
         elim (none-or (s v .parent)) [
-          inl e ↦ a .top v l e ∙ sym (b .top v l (sym (same v l) ∙ e))
-        | inr e ↦ (
-            let w = e .0 in
-            let j = depths .link v w l (ap stored (e .1)) in
-            let r = ranks-one d depths a b k w (j .0) (omega (arith, j .1)) in
-            a .next v w l (e .1) ∙ ap₂ (λ x y. min (m .nodes) (x + 1 + y)) r (before-same w v) ∙ sym (b .next v w l (sym (same v l) ∙ e .1))) ]
+          | inl e ↦ a .top v l e ∙ sym (b .top v l (sym (same v l) ∙ e))
+          | inr e ↦ (
+              let w = e .0 in
+              let j = depths .link v w l (ap stored (e .1)) in
+              let r = ranks-one d depths a b k w (j .0) (omega (arith, j .1)) in
+              a .next v w l (e .1) ∙ ap₂ (λ x y. min (m .nodes) (x + 1 + y)) r (before-same w v) ∙ sym (b .next v w l (sym (same v l) ∙ e .1)))
+        ]
       where
         none-or : (o : Option ℕ) → (o ≡ None) ⊎ ((w : ℕ) × (o ≡ Some w))
         none-or None = inl refl

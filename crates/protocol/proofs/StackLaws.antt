@@ -34,15 +34,16 @@ use Rattle.protocol.proofs.StackAgree.{counts-same, counts-one, ranks-same, ra
 
 pub layers-stand : (a : Layer) (g : Gathering) (p q : Protocol) → LayersStand a g p q
 layers-stand a g p q = record {
-    over = λ m proper own law. settles-over m a p proper own law;
-    layer = λ m proper own law. layered-laws m a p proper own law;
-    gathers = λ m t h proper law near tall. gather-settles m g proper law t near h tall;
-    gathered = λ m t xs proper law ok fix. rest-gathered m g proper law t xs ok fix;
-    counter = counter-laws;
-    count = λ m proper law. count-laws m p proper law;
-    ranker = ranker-laws;
-    rank = λ m proper law. rank-laws m p proper law;
-    beside = λ m proper left right-side. beside-laws m p q proper left right-side }
+  over = λ m proper own law. settles-over m a p proper own law;
+  layer = λ m proper own law. layered-laws m a p proper own law;
+  gathers = λ m t h proper law near tall. gather-settles m g proper law t near h tall;
+  gathered = λ m t xs proper law ok fix. rest-gathered m g proper law t xs ok fix;
+  counter = counter-laws;
+  count = λ m proper law. count-laws m p proper law;
+  ranker = ranker-laws;
+  rank = λ m proper law. rank-laws m p proper law;
+  beside = λ m proper left right-side. beside-laws m p q proper left right-side;
+}
 
 -- what legitimate outputs of the tour are made of
 pub record Parts (m : Model) (t : ℕ → Output) : Type 0 where
@@ -57,7 +58,7 @@ module _ (m : Model) (proper : Proper m) where
   pub whole : (t : ℕ → Output) → Parts m t → tour m .Legitimate t
   whole t h = (h .ranks, ((λ v. t v .rank), (h .counts, ((λ v. t v .count), h .tree))))
 
-  near-tree : (t : ℕ → Output) → Legitimate m t → Near m t
+  pub near-tree : (t : ℕ → Output) → Legitimate m t → Near m t
   near-tree t h v u l e = tells-tree m proper t h .nearer v u l e .0
 
   counted : (t : ℕ → Output) → count m (tree m) .Legitimate t → Counts m t
@@ -65,9 +66,10 @@ module _ (m : Model) (proper : Proper m) where
 
   rooted : (t : ℕ → Output) → BreadthFirst m t → Rooted (m .nodes) (parents t) (m .root)
   rooted t b = record {
-      node = proper .drawn .rooted;
-      top = ap stored (b .root);
-      only = λ v l e. b .only v l (stored-none (t v .parent) e) }
+    node = proper .drawn .rooted;
+    top = ap stored (b .root);
+    only = λ v l e. b .only v l (stored-none (t v .parent) e);
+  }
 
   toured : (t : ℕ → Output) → Parts m t → Counts m t × Tours m t
   toured t h =
@@ -75,11 +77,13 @@ module _ (m : Model) (proper : Proper m) where
       let b = tells-tree m proper t (h .tree) in
       let e = deep m (proper .drawn) t near (height m) (legitimate-tall m proper t (h .tree)) in
       let r = ranked m proper t near (e .0) (e .1) (h .counts) (h .ranks) in
-      let o = ordered-children m (proper .drawn) t near in
-      (record { tree = b; sizes = h .counts },
-       record {
-         place = rank-place (m .nodes) (parents t) (e .0) (children m t) (m .root) (e .1) o (rooted t b) (λ v. t v .count) (λ v. t v .rank) (h .counts) r;
-         each = rank-each (m .nodes) (parents t) (e .0) (children m t) (m .root) (e .1) o (rooted t b) (λ v. t v .count) (λ v. t v .rank) (h .counts) r })
+      let o = ordered-children m (proper .drawn) t near in (
+        record { tree = b; sizes = h .counts },
+        record {
+          place = rank-place (m .nodes) (parents t) (e .0) (children m t) (m .root) (e .1) o (rooted t b) (λ v. t v .count) (λ v. t v .rank) (h .counts) r;
+          each = rank-each (m .nodes) (parents t) (e .0) (children m t) (m .root) (e .1) o (rooted t b) (λ v. t v .count) (λ v. t v .rank) (h .counts) r;
+        },
+      )
 
   agree : (s t : ℕ → Output) → Parts m s → Parts m t → Agree (m .nodes) s t
   agree s t a b v l =
@@ -97,7 +101,8 @@ module _ (m : Model) (proper : Proper m) where
       record {
         tree = parent-legitimate m proper t (λ v l. sym (e v l .0) ∙ legitimate-parent m s (a .tree) v l);
         counts = counts-same m (proper .drawn) s t near p c (a .counts);
-        ranks = ranks-same m (proper .drawn) s t near p c (λ v l. e v l .2) (a .ranks) }
+        ranks = ranks-same m (proper .drawn) s t near p c (λ v l. e v l .2) (a .ranks);
+      }
 
   pub stack-laws : Laws m (stack m)
   stack-laws = beside-laws m (tour m) (matching m) proper (rank-laws m (count m (tree m)) proper (count-laws m (tree m) proper (tree-laws m proper))) (matching-laws m proper)
@@ -111,12 +116,13 @@ module _ (m : Model) (proper : Proper m) where
 
 pub stack-stands : StackStands
 stack-stands = record {
-    laws = stack-laws;
-    size = λ m proper. let a = arcs-are m (proper .drawn) in omega arith;
-    bound = λ m. omega arith;
-    height = λ m. refl;
-    counts = λ m proper t h. counted m proper t h;
-    tours = λ m proper t h. toured m proper t (parts m proper t h);
-    means = λ m proper t h. stack-means m proper t h;
-    one = λ m proper s t a b. agree m proper s t (parts m proper s a) (parts m proper t b);
-    same = λ m proper s t a e. whole m proper t (same m proper s t (parts m proper s a) e) }
+  laws = stack-laws;
+  size = λ m proper. let a = arcs-are m (proper .drawn) in omega arith;
+  bound = λ m. omega arith;
+  height = λ m. refl;
+  counts = λ m proper t h. counted m proper t h;
+  tours = λ m proper t h. toured m proper t (parts m proper t h);
+  means = λ m proper t h. stack-means m proper t h;
+  one = λ m proper s t a b. agree m proper s t (parts m proper s a) (parts m proper t b);
+  same = λ m proper s t a e. whole m proper t (same m proper s t (parts m proper s a) e);
+}

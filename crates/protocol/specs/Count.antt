@@ -11,14 +11,15 @@ use Rattle.protocol.specs.Gather.{Gathering, gatherer}
 -- 1 for the node itself, added to its children's counts, and at most the number of nodes; one register for each node
 abbrev pub counting : Model → Gathering
 counting m = record {
-    Reading = ℕ;
-    size = m .nodes;
-    width = 1;
-    load = λ f. f 0;
-    store = λ x i. x;
-    own = λ t v. 1;
-    join = λ x y. x + y;
-    cut = λ x. min (m .nodes) x }
+  Reading = ℕ;
+  size = m .nodes;
+  width = 1;
+  load = λ f. f 0;
+  store = λ x i. x;
+  own = λ t v. 1;
+  join = λ x y. x + y;
+  cut = λ x. min (m .nodes) x;
+}
 
 -- every count is the number of nodes in the subtree of told parents
 abbrev pub CountsRight : Model → (ℕ → Output) → Type 0

@@ -49,12 +49,13 @@ module _ (m : Model) (g : Gathering) where
 -- a layer that gathers, tells what it gathered and has outputs that meet a rule
 abbrev pub gatherer : Model → (g : Gathering) → (Output → g .Reading → Output) → ((ℕ → Output) → Type 0) → Layer
 gatherer m g tell Meets = record {
-    size = g .size;
-    rule = gather-rule m g;
-    Value = g .Reading;
-    value = reading m g;
-    tell = tell;
-    Meets = Meets }
+  size = g .size;
+  rule = gather-rule m g;
+  Value = g .Reading;
+  value = reading m g;
+  tell = tell;
+  Meets = Meets;
+}
 
 -- every reading is gathered from the others
 abbrev pub Gathered : Model → (g : Gathering) → (ℕ → Output) → (ℕ → g .Reading) → Type 0

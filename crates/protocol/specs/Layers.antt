@@ -59,13 +59,14 @@ told-by a t xs v = a .tell (t v) (a .value xs v)
 -- outputs are legitimate if they meet the layer's rule and, with some others for those that it makes, are so below
 abbrev pub layered : Model → Layer → Protocol → Protocol
 layered m a p = record {
-    size = p .size + a .size;
-    turn = then-turn p (λ v below own. a .rule (p .output below) v own);
-    output = λ xs. told-by a (p .output (under p xs)) (over p xs);
-    Legitimate = λ t. a .Meets t × ((others : ℕ → a .Value) × p .Legitimate (λ v. a .tell (t v) (others v)));
-    Rest = λ xs. p .Rest (under p xs) × Fixed m a (p .output (under p xs)) (over p xs);
-    bound = p .bound + (p .height + 1);
-    height = p .height }
+  size = p .size + a .size;
+  turn = then-turn p (λ v below own. a .rule (p .output below) v own);
+  output = λ xs. told-by a (p .output (under p xs)) (over p xs);
+  Legitimate = λ t. a .Meets t × ((others : ℕ → a .Value) × p .Legitimate (λ v. a .tell (t v) (others v)));
+  Rest = λ xs. p .Rest (under p xs) × Fixed m a (p .output (under p xs)) (over p xs);
+  bound = p .bound + (p .height + 1);
+  height = p .height;
+}
 
 -- what a layer owes, so that over every protocol it is one
 pub record LayerLaws (m : Model) (a : Layer) : Type 0 where

@@ -9,3 +9,4 @@ pub mod Count
 pub mod Rank
 pub mod Beside
 pub mod Stack
+pub mod Cases

@@ -58,12 +58,13 @@ pub record RanksRight (m : Model) (t : ℕ → Output) : Type 0 where
 
 abbrev pub ranker : Model → Layer
 ranker m = record {
-    size = m .nodes + arcs m;
-    rule = rank-rule m;
-    Value = ℕ;
-    value = λ xs v. getD xs v 0;
-    tell = with-rank;
-    Meets = RanksRight m }
+  size = m .nodes + arcs m;
+  rule = rank-rule m;
+  Value = ℕ;
+  value = λ xs v. getD xs v 0;
+  tell = with-rank;
+  Meets = RanksRight m;
+}
 
 abbrev pub rank : Model → Protocol → Protocol
 rank m p = layered m (ranker m) p

@@ -1,4 +1,5 @@
 //! What a silent protocol means at a site, and the laws that every one owes; the meaning of ours, and their proofs.
+ghost use Rattle.protocol.specs.Cases.{Table};
 ghost use Rattle.protocol.specs.Gather.{Gathering};
 ghost use Rattle.protocol.specs.Layers.{Layer};
 ghost use Rattle.protocol.specs.Matching.{MatchingLaws};
@@ -54,6 +55,13 @@ pub fn layers_stand<X: Layering>() -> u8
 /// Carries the theorems about the stack.
 pub fn stack_stands() -> u8
     ensures { λ _. ⌜ StackStands ⌝ }
+{
+    0
+}
+
+/// Carries the worked examples.
+pub fn table_stands() -> u8
+    ensures { λ _. ⌜ Table ⌝ }
 {
     0
 }
