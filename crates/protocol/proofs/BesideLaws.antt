@@ -1,9 +1,8 @@
 -- Two protocols side by side are one.
-use mathlib.Core.Path.{_≡_, refl}
+use mathlib.Core.Path.{refl}
 use Prim.Native.Nat.{ℕ, _+_, _<_}
 use mathlib.Core.List.{List}
 use Rattle.graph.specs.Model.{Model, Proper}
-use Rattle.protocol.specs.declared.Output.{Output}
 use Rattle.protocol.specs.Protocols.{Protocol, Registers, Laws}
 use Rattle.protocol.specs.Layers.{under, over}
 use Rattle.protocol.specs.Beside.{beside}

@@ -1,12 +1,12 @@
 -- The worked examples hold.
 use mathlib.Core.Path.{_≡_, refl, sym, ap, _∙_, subst}
-use mathlib.Core.Logic.{_⊎_, inl, inr}
-use mathlib.Core.Bool.{Bool, true, false, cond, _&&_, _||_}
+use mathlib.Core.Logic.{inl, inr}
+use mathlib.Core.Bool.{Bool, true, false, _&&_, _||_}
 use mathlib.Core.List.{List, [], _∷_, _++_}
-use Prim.Native.Nat.{ℕ, zero, suc, _+_, _≤_, _<_, min}
+use Prim.Native.Nat.{ℕ, zero, suc, _+_, _<_, min}
 use native.Mathlib.Omega.{arith}
 use lib.Dec.{eqb}
-use lib.ListN.{length, getD, replicate}
+use lib.ListN.{length}
 use Rattle.std.specs.declared.option.Option.{Option}
 use Rattle.std.specs.declared.option.Option.the-variants.{Some, None}
 use Rattle.std.proofs.shelf.Tests.{cases-eq, eq-eqb, both-ways, or-parts, and-from}
@@ -21,12 +21,11 @@ use Rattle.protocol.specs.Gather.{gathered}
 use Rattle.protocol.specs.Count.{counting, count}
 use Rattle.protocol.specs.Rank.{counts-before, RanksRight, rank}
 use Rattle.protocol.specs.Tree.{tree, tree-parent}
-use Rattle.protocol.specs.Matching.{Rule, M0, M1, M2, M3, Stays, Asks, Fits, place, register, matching}
-use Rattle.protocol.specs.Stack.{stack}
+use Rattle.protocol.specs.Matching.{Rule, M0, M1, M2, M3, Stays, Asks, place, register}
 use Rattle.protocol.specs.Cases.{five, five-distance, five-tells, single, path, named, Exactly, Table}
 use Rattle.protocol.proofs.TreeParents.{parent-legitimate, legitimate-tall}
 use Rattle.protocol.proofs.CountLaws.{gathered-counts}
-use Rattle.protocol.proofs.StackLaws.{Parts, whole, near-tree, stack-stands}
+use Rattle.protocol.proofs.StackLaws.{whole, near-tree, stack-stands}
 
 -- what holds at each number below n
 abbrev Each : (ℕ → Type 0) → ℕ → Type 0
@@ -62,12 +61,12 @@ five-drawn : Drawn five
 five-drawn =
     linked 5 3 4 ((0, 1) ∷ (0, 2) ∷ (1, 3) ∷ (2, 3) ∷ [])
     (linked 5 2 3 ((0, 1) ∷ (0, 2) ∷ (1, 3) ∷ [])
-     (linked 5 1 3 ((0, 1) ∷ (0, 2) ∷ [])
-      (linked 5 0 2 ((0, 1) ∷ [])
-       (linked 5 0 1 [] (drawn-none 5 0 (omega arith) (omega arith) (omega arith)) (omega arith) (omega arith) refl (omega arith) (omega arith))
-       (omega arith) (omega arith) refl (omega arith) (omega arith))
-      (omega arith) (omega arith) refl (omega arith) (omega arith))
-     (omega arith) (omega arith) refl (omega arith) (omega arith))
+    (linked 5 1 3 ((0, 1) ∷ (0, 2) ∷ [])
+    (linked 5 0 2 ((0, 1) ∷ [])
+    (linked 5 0 1 [] (drawn-none 5 0 (omega arith) (omega arith) (omega arith)) (omega arith) (omega arith) refl (omega arith) (omega arith))
+    (omega arith) (omega arith) refl (omega arith) (omega arith))
+    (omega arith) (omega arith) refl (omega arith) (omega arith))
+    (omega arith) (omega arith) refl (omega arith) (omega arith))
     (omega arith) (omega arith) refl (omega arith) (omega arith)
 
 five-proper : Proper five

@@ -1,12 +1,11 @@
 -- Count over any protocol is one, and its counts are the sizes of subtrees.
-use mathlib.Core.Path.{_≡_, refl, sym, ap, _∙_, subst}
-use mathlib.Core.Logic.{_⊎_, inl, inr}
+use mathlib.Core.Path.{_≡_, refl, sym, ap, subst}
 use mathlib.Core.List.{List, [], _∷_}
-use Prim.Native.Nat.{ℕ, zero, suc, _+_, _≤_, _<_, min}
+use Prim.Native.Nat.{ℕ, zero, suc, _+_, _<_, min}
 use native.Mathlib.Omega.{arith}
-use Rattle.lists.specs.Members.{Among}
+use lib.ListN.{getD, set}
 use Rattle.graph.specs.Model.{Model, Proper, ports}
-use Rattle.rounds.specs.Forest.{In, Counted, Sized, Depths, Greatest, sumOver, childSum}
+use Rattle.rounds.specs.Forest.{In, Counted, Sized, Depths, Greatest, sumOver}
 use Rattle.rounds.proofs.SizeLaws.{sizes-exist, size-low, size-sum}
 use Rattle.rounds.proofs.Sums.{sum-cong}
 use Rattle.protocol.specs.declared.Output.{Output}
@@ -22,6 +21,9 @@ use Rattle.protocol.proofs.GatherLaws.{gatherer-laws}
 pub join-sum : (f : ℕ → ℕ) (xs : List ℕ) (x : ℕ) → join-all (λ x y. x + y) f x xs ≡ x + sumOver f xs
 join-sum f [] x = omega arith
 join-sum f (c ∷ cs) x = let r = join-sum f cs (x + f c) in omega arith
+
+pub count-rule : (m : Model) (t : ℕ → Output) (v : ℕ) (xs : List ℕ) → counter m .rule t v xs ≡ set xs v (min (m .nodes) (1 + sumOver (λ c. getD xs c 0) (children m t v)))
+count-rule m t v xs = ap (λ z. set xs v (min (m .nodes) z)) (join-sum (λ c. getD xs c 0) (children m t v) 1)
 
 module _ (m : Model) (proper : Proper m) (t : ℕ → Output) (near : Near m t) (h : ℕ) (d size : ℕ → ℕ) (depths : Depths (m .nodes) (parents t) d) (great : Greatest (m .nodes) d h) (sized : Sized (m .nodes) (parents t) size) where
   -- numbers that are gathered from one another are the sizes: from the deepest nodes up

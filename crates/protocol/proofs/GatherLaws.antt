@@ -1,10 +1,10 @@
 -- Any gathering comes to rest: readings settle from the deepest nodes up.
 use mathlib.Core.Path.{_≡_, refl, sym, ap, _∙_, subst, fun-ext}
-use mathlib.Core.Logic.{_⊎_, inl, inr}
+use mathlib.Core.Logic.{inl, inr}
 use mathlib.Core.List.{List, [], _∷_}
-use Prim.Native.Nat.{ℕ, zero, suc, _+_, _-_, _≤_, _<_}
+use Prim.Native.Nat.{ℕ, suc, _-_, _≤_, _<_}
 use native.Mathlib.Omega.{arith}
-use lib.ListN.{length, getD}
+use lib.ListN.{getD}
 use Rattle.std.proofs.shelf.Tests.{cases-eq}
 use Rattle.lists.specs.Members.{Among}
 use Rattle.lists.proofs.Decisions.{below?}
@@ -14,8 +14,8 @@ use Rattle.rounds.specs.Runs.{From}
 use Rattle.protocol.specs.declared.Output.{Output}
 use Rattle.protocol.specs.Outputs.{Tall}
 use Rattle.protocol.specs.Protocols.{Registers}
-use Rattle.protocol.specs.Layers.{Near, children, Fixed, LayerLaws}
-use Rattle.protocol.specs.Gather.{block, Gathering, join-all, reading, gathered, gather-rule, gatherer, Gathered, GatheringLaws}
+use Rattle.protocol.specs.Layers.{Near, children, LayerLaws}
+use Rattle.protocol.specs.Gather.{block, Gathering, join-all, reading, gathered, gather-rule, gatherer, GatherFixed, Gathered, GatheringLaws}
 use Rattle.protocol.proofs.LayerForest.{parents, ordered-children, deep}
 use Rattle.protocol.proofs.LayerOwned.{Owned, owned-settles}
 use Rattle.protocol.proofs.GatherBlocks.{block-apart, write-length, write-other, write-at, write-registers}
@@ -76,13 +76,13 @@ module _ (m : Model) (g : Gathering) (proper : Proper m) (law : GatheringLaws m 
       seen = λ v u xs l k p ok. seen v u xs l k p;
     }
 
-  pub gather-settles : (near : Near m t) (h : ℕ) → Tall (m .nodes) t h → From step (m .nodes) Ok (suc h) (λ xs. (v : ℕ) → v < m .nodes → step v xs ≡ xs)
+  pub gather-settles : (near : Near m t) (h : ℕ) → Tall (m .nodes) t h → From step (m .nodes) Ok (suc h) (GatherFixed m g t)
   gather-settles near h tall xs ts ok b k =
       let e = deep m (proper .drawn) t near h tall in
       owned-settles (m .nodes) h step Ok (λ v. h - e .0 v) Mine (g .Reading) sees (gather-owned near h (e .0) (e .1) (e .2)) (let s = proper .drawn .some in omega arith) xs ts ok b k .1
 
   -- registers that stay hold readings each of which is gathered from the others
-  pub rest-gathered : (xs : List ℕ) → Ok xs → ((v : ℕ) → v < m .nodes → step v xs ≡ xs) → Gathered m g t (reading m g xs)
+  pub rest-gathered : (xs : List ℕ) → Ok xs → GatherFixed m g t xs → Gathered m g t (reading m g xs)
   rest-gathered xs ok fix v l = law .loads (join-all (g .join) (reading m g xs) (g .own t v) (children m t v)) (λ i. getD xs (block (m .nodes) i v) 0) (λ i k. ap (λ z. getD z (block (m .nodes) i v) 0) (sym (fix v l)) ∙ step-at v i xs l ok k)
 
 -- so a gathering makes a layer, if what it gathers meets the layer's rule

@@ -1,11 +1,9 @@
 -- Told parents as stored ones: what outputs say of chains is what forests say.
-use mathlib.Core.Path.{_≡_, refl, sym, ap, _∙_, subst}
+use mathlib.Core.Path.{_≡_, refl, sym, ap, _∙_}
 use mathlib.Core.Logic.{_⊎_, inl, inr}
-use mathlib.Core.Bool.{true, false, cond}
 use mathlib.Core.List.{List, [], _∷_}
-use Prim.Native.Nat.{ℕ, zero, suc, _+_, _≤_, _<_}
+use Prim.Native.Nat.{ℕ, zero, suc, _+_, _<_}
 use native.Mathlib.Omega.{arith}
-use lib.Dec.{eqb}
 use Rattle.std.proofs.shelf.Ways.{eqb-tells}
 use Rattle.std.specs.declared.option.Option.{Option}
 use Rattle.std.specs.declared.option.Option.the-variants.{Some, None}
@@ -20,6 +18,10 @@ use Rattle.protocol.specs.declared.Output.{Output}
 use Rattle.protocol.specs.Outputs.{stored, Chain, Tall}
 use Rattle.protocol.specs.Layers.{Near, children-among, children}
 use Rattle.protocol.proofs.FirstLaws.{stored-none, stored-some}
+
+pub none-or-some : (o : Option ℕ) → (o ≡ None) ⊎ ((u : ℕ) × (o ≡ Some u))
+none-or-some None = inl refl
+none-or-some (Some u) = inr (u, refl)
 
 -- the parents that outputs tell, stored
 abbrev pub parents : (ℕ → Output) → ℕ → ℕ

@@ -1,17 +1,15 @@
 -- A layer that keeps its laws makes a protocol of every protocol.
-use mathlib.Core.Path.{_≡_, refl, sym, ap, _∙_, subst, fun-ext}
-use mathlib.Core.Logic.{_⊎_, inl, inr}
-use mathlib.Core.List.{List, [], _∷_, _++_}
-use Prim.Native.Nat.{ℕ, zero, suc, _+_, _≤_, _<_}
+use mathlib.Core.Path.{_≡_, refl, sym, _∙_, subst, fun-ext}
+use mathlib.Core.List.{List}
+use Prim.Native.Nat.{ℕ, zero, suc, _+_, _<_}
 use native.Mathlib.Omega.{arith}
-use Rattle.std.specs.declared.option.Option.the-variants.{Some, None}
 use Rattle.graph.specs.Model.{Model, Proper}
 use Rattle.rounds.specs.Runs.{run, From}
 use Rattle.rounds.proofs.RunsLaws.{compose, from-more}
 use Rattle.protocol.specs.declared.Output.{Output}
 use Rattle.protocol.specs.Outputs.{Chain, Tall}
 use Rattle.protocol.specs.Protocols.{Protocol, Registers, Laws}
-use Rattle.protocol.specs.Layers.{under, over, Layer, told-by, Fixed, layered, Near, LayerLaws, SettlesOver}
+use Rattle.protocol.specs.Layers.{under, over, Layer, Fixed, layered, Near, LayerLaws, SettlesOver}
 use Rattle.protocol.proofs.LayerTurns.{registers-front, registers-back, then-still, then-keeps, run-keeps, run-under, run-over}
 
 -- chains depend on parents alone

@@ -7,23 +7,22 @@ use native.Mathlib.Omega.{arith}
 use lib.ListN.{length, getD, set, length-set}
 use Rattle.std.specs.declared.option.Option.{Option}
 use Rattle.std.specs.declared.option.Option.the-variants.{Some, None}
-use Rattle.std.specs.shelf.Lists.{All}
 use Rattle.std.proofs.shelf.Elements.{all-set}
 use Rattle.std.proofs.shelf.Lists.{getD-set-same, getD-set-other}
 use Rattle.std.proofs.shelf.Tests.{cases-eq}
-use Rattle.lists.proofs.Decisions.{Decided, either?, both?, lt?, le?}
+use Rattle.lists.proofs.Decisions.{either?, both?, lt?, le?}
 use Rattle.graph.specs.Model.{Model, Proper, ports, arcs-before, arcs}
 use Rattle.rounds.specs.Forest.{Depths, Greatest}
 use Rattle.rounds.specs.Runs.{From}
 use Rattle.protocol.specs.declared.Output.{Output}
-use Rattle.protocol.specs.Outputs.{stored, Tall, with-rank}
+use Rattle.protocol.specs.Outputs.{stored, Tall}
 use Rattle.protocol.specs.Protocols.{Protocol, Registers, Laws}
 use Rattle.protocol.specs.Layers.{Near, LayerLaws, Fixed, told-by}
-use Rattle.protocol.specs.Rank.{port-to, slot, rank-from, slots, put, rank-rule, counts-before, RanksRight, ranker, rank}
+use Rattle.protocol.specs.Rank.{port-to, slot, rank-from, slots, rank-rule, number-given, RankTurn, counts-before, RanksRight, ranker, rank}
 use Rattle.protocol.proofs.LayerForest.{parents, child-port, deep}
 use Rattle.protocol.proofs.LayerOwned.{Owned, owned-settles}
 use Rattle.protocol.proofs.LayerLaws.{layered-laws}
-use Rattle.protocol.proofs.RankSlots.{arcs-next, port-low, slots-length, slots-small, slot-at, put-length, put-all, put-other, put-here}
+use Rattle.protocol.proofs.RankSlots.{arcs-next, port-low, slots-length, slots-small, slots-at, slot-at, put-length, put-all, put-other, put-here}
 
 module _ (m : Model) (proper : Proper m) (t : ℕ → Output) where
   abbrev Ok : List ℕ → Type 0
@@ -72,6 +71,14 @@ module _ (m : Model) (proper : Proper m) (t : ℕ → Output) where
 
   step-slot : (v j : ℕ) (xs : List ℕ) → v < m .nodes → Ok xs → j < length (ports m v) → getD (step v xs) (m .nodes + arcs-before m v + j) 0 ≡ getD (filled v xs) j 0
   step-slot v j xs l ok h = let s = slots-length (m .nodes) t v (ports m v) (new v xs + 1) in let a = arcs-next m v (m .nodes) l in put-here (filled v xs) (set xs v (new v xs)) (m .nodes + arcs-before m v) j (omega arith) (simp length-set (omega (arith, ok .0)))
+
+  pub rank-turn : (v : ℕ) (xs : List ℕ) → v < m .nodes → Ok xs → RankTurn m t v xs (step v xs)
+  rank-turn v xs l ok = record {
+    same-length = step-length v xs;
+    rank = step-rank v xs l ok;
+    slots = λ j k. step-slot v j xs l ok k ∙ slots-at (m .nodes) t v (ports m v) (new v xs + 1) j k ∙ ap (λ r. number-given m t v r j) (sym (step-rank v xs l ok));
+    others = λ i ne out. step-other v i xs (λ a. elim a [ inl e ↦ ne e | inr e ↦ elim out [ inl b ↦ absurd (omega arith) | inr b ↦ absurd (omega arith) ] ]);
+  }
 
   step-mine : (v i : ℕ) (xs ys : List ℕ) → v < m .nodes → Ok xs → Ok ys → new v xs ≡ new v ys → Mine v i → getD (step v xs) i 0 ≡ getD (step v ys) i 0
   step-mine v i xs ys l ok ko e (inl x) = subst (λ z. getD (step v xs) z 0 ≡ getD (step v ys) z 0) (sym x) (step-rank v xs l ok ∙ e ∙ sym (step-rank v ys l ko))

@@ -1,19 +1,16 @@
 -- Over right counts, ranks that meet the rule are places in the preorder listing.
 use mathlib.Core.Path.{_≡_, refl, sym, ap, ap₂, _∙_, subst}
-use mathlib.Core.Logic.{_⊎_, inl, inr}
-use mathlib.Core.Bool.{true, false, cond}
+use mathlib.Core.Logic.{inl, inr}
+use mathlib.Core.Bool.{true}
 use mathlib.Core.List.{List, [], _∷_, _++_}
-use Prim.Native.Nat.{ℕ, zero, suc, _+_, _≤_, _<_, min}
+use Prim.Native.Nat.{ℕ, zero, suc, _+_, _≤_, _<_}
 use native.Mathlib.Omega.{arith}
 use lib.Dec.{eqb}
-use lib.ListN.{take}
-use Rattle.std.specs.declared.option.Option.{Option}
-use Rattle.std.specs.declared.option.Option.the-variants.{Some, None}
 use Rattle.std.proofs.shelf.Ways.{eqb-tells}
 use Rattle.lists.specs.Members.{Among, Once}
 use Rattle.lists.proofs.Elements.{once-apart}
 use Rattle.graph.specs.Model.{Model, Proper, ports}
-use Rattle.rounds.specs.Forest.{Depths, Sized, sumOver}
+use Rattle.rounds.specs.Forest.{Depths, sumOver}
 use Rattle.rounds.specs.Preorder.{Ranked}
 use Rattle.rounds.proofs.SizeLaws.{size-low, size-sum}
 use Rattle.rounds.proofs.Sums.{sum-append}
@@ -23,7 +20,7 @@ use Rattle.protocol.specs.Layers.{Near, children-among, children}
 use Rattle.protocol.specs.Count.{CountsRight}
 use Rattle.protocol.specs.Rank.{earlier, counts-before, RanksRight}
 use Rattle.protocol.proofs.FirstLaws.{stored-none, stored-some}
-use Rattle.protocol.proofs.LayerForest.{parents, child-port, lists-children, ordered-children, children-sum, parents-inside}
+use Rattle.protocol.proofs.LayerForest.{none-or-some, parents, child-port, lists-children, ordered-children, children-sum}
 
 -- a list splits at an element that stands once in one way
 split-unique : (v : ℕ) (a b c d : List ℕ) → (Among v a → ⊥) → (Among v c → ⊥) → a ++ (v ∷ b) ≡ c ++ (v ∷ d) → a ≡ c
@@ -68,14 +65,10 @@ module _ (m : Model) (proper : Proper m) (t : ℕ → Output) (near : Near m t) 
   room : (k v : ℕ) → v < m .nodes → d v < k → t v .rank + count v ≤ m .nodes
   room zero v l h = absurd (omega arith)
   room (suc k) v l h =
-      elim (none-or (t v .parent)) [
+      elim (none-or-some (t v .parent)) [
         | inl e ↦ (let a = ranks .top v l e in let b = size-low (m .nodes) (parents t) count counts v l in omega arith)
         | inr e ↦ (let s = share v (e .0) l (ap stored (e .1)) in let r = room k (e .0) (s .0) (omega (arith, s .1)) in let a = ranks .next v (e .0) l (e .1) in omega (arith, s .2))
       ]
-    where
-      none-or : (o : Option ℕ) → (o ≡ None) ⊎ ((w : ℕ) × (o ≡ Some w))
-      none-or None = inl refl
-      none-or (Some w) = inr (w, refl)
 
   pub ranked : Ranked (m .nodes) (parents t) (children m t) count (λ v. t v .rank)
   ranked = record {

@@ -1,7 +1,7 @@
 -- Slots of ports: where each stands, what is put there, and what writing them leaves.
 use mathlib.Core.Path.{_≡_, refl, sym, ap, _∙_, subst}
 use mathlib.Core.Logic.{_⊎_, inl, inr}
-use mathlib.Core.Bool.{Bool, true, false, cond}
+use mathlib.Core.Bool.{cond}
 use mathlib.Core.List.{List, [], _∷_}
 use Prim.Native.Nat.{ℕ, zero, suc, _+_, _≤_, _<_, min}
 use native.Mathlib.Omega.{arith}
@@ -10,7 +10,7 @@ use lib.ListN.{length, getD, set, take, length-set}
 use Rattle.std.specs.shelf.Lists.{All}
 use Rattle.std.proofs.shelf.Lists.{getD-set-same, getD-set-other}
 use Rattle.std.proofs.shelf.Elements.{all-set}
-use Rattle.std.proofs.shelf.Tests.{cases-eq}
+use Rattle.std.proofs.shelf.Tests.{cases-eq, cond-true, eq-eqb}
 use Rattle.std.proofs.shelf.Ways.{eqb-tells}
 use Rattle.lists.specs.Members.{Among}
 use Rattle.graph.specs.Model.{Model, ports, arcs-before}
@@ -30,6 +30,11 @@ port-low v [] m = absurd m
 port-low v (x ∷ xs) (inl q) = elim (eqb-tells x v) [ inl e ↦ rw (e .0) (omega arith) | inr e ↦ absurd (e .1 (sym q)) ]
 port-low v (x ∷ xs) (inr q) = let r = port-low v xs q in elim (eqb-tells x v) [ inl e ↦ rw (e .0) (omega arith) | inr e ↦ rw (e .0) (omega arith) ]
 
+pub port-at : (v : ℕ) (xs : List ℕ) → Among v xs → getD xs (port-to v xs) 0 ≡ v
+port-at v [] m = absurd m
+port-at v (x ∷ xs) (inl q) = elim (eqb-tells x v) [ inl e ↦ rw (e .0) (e .1) | inr e ↦ absurd (e .1 (sym q)) ]
+port-at v (x ∷ xs) (inr q) = let r = port-at v xs q in elim (eqb-tells x v) [ inl e ↦ rw (e .0) (e .1) | inr e ↦ rw (e .0) r ]
+
 module _ (n : ℕ) (t : ℕ → Output) (w : ℕ) where
   pub slots-length : (xs : List ℕ) (r : ℕ) → length (slots n t w r xs) ≡ length xs
   slots-length [] r = refl
@@ -43,23 +48,22 @@ module _ (n : ℕ) (t : ℕ → Output) (w : ℕ) where
       let a = slots-small few xs (r + t x .count) in let b = slots-small few xs r in
       elim (eqb-tells (parents t x) (suc w)) [ inl e ↦ rw (e .0) (omega arith, a) | inr e ↦ rw (e .0) (omega arith, b) ]
 
+  -- the slot at a port
+  pub slots-at : (xs : List ℕ) (r j : ℕ) → j < length xs → getD (slots n t w r xs) j 0 ≡ cond (eqb (parents t (getD xs j 0)) (suc w)) (min n (r + sumOver (λ c. t c .count) (children-among t w (take j xs)))) 0
+  slots-at [] r j l = absurd (omega arith)
+  slots-at (x ∷ xs) r zero l = elim (eqb-tells (parents t x) (suc w)) [ inl e ↦ rw (e .0) (omega arith) | inr e ↦ rw (e .0) ]
+  slots-at (x ∷ xs) r (suc j) l =
+      let s = sumOver (λ c. t c .count) (children-among t w (take j xs)) in
+      let q : r + t x .count + s ≡ r + (t x .count + s) = omega arith in
+      let a = slots-at xs (r + t x .count) j (omega arith) ∙ ap (λ z. cond (eqb (parents t (getD xs j 0)) (suc w)) (min n z) 0) q in
+      let b = slots-at xs r j (omega arith) in
+      elim (eqb-tells (parents t x) (suc w)) [ inl e ↦ rw (e .0) a | inr e ↦ rw (e .0) b ]
+
   -- the slot of a child
   pub slot-at : (v : ℕ) (xs : List ℕ) (r : ℕ) → Among v xs → parents t v ≡ suc w → getD (slots n t w r xs) (port-to v xs) 0 ≡ min n (r + sumOver (λ c. t c .count) (children-among t w (earlier v xs)))
-  slot-at v [] r m p = absurd m
-  slot-at v (x ∷ xs) r m p =
-      elim (eqb-tells x v) [
-        | inl q ↦ (let e : eqb (parents t x) (suc w) ≡ true = yes-child x (q .1) in rw (q .0, e) (omega arith))
-        | inr q ↦ elim m [
-          | inl z ↦ absurd (q .1 (sym z))
-          | inr z ↦ elim (eqb-tells (parents t x) (suc w)) [
-            | inl e ↦ rw (q .0, e .0) (slot-at v xs (r + t x .count) z p ∙ omega arith)
-            | inr e ↦ rw (q .0, e .0) (slot-at v xs r z p)
-          ]
-        ]
-      ]
-    where
-      yes-child : (x : ℕ) → x ≡ v → eqb (parents t x) (suc w) ≡ true
-      yes-child x q = elim (eqb-tells (parents t x) (suc w)) [ inl e ↦ e .0 | inr e ↦ absurd (e .1 (ap (parents t) q ∙ p)) ]
+  slot-at v xs r k p =
+      slots-at xs r (port-to v xs) (port-low v xs k)
+      ∙ cond-true (eqb (parents t (getD xs (port-to v xs) 0)) (suc w)) (min n (r + sumOver (λ c. t c .count) (children-among t w (earlier v xs)))) 0 (eq-eqb (parents t (getD xs (port-to v xs) 0)) (suc w) (ap (parents t) (port-at v xs k) ∙ p))
 
 pub put-length : (ys xs : List ℕ) (i : ℕ) → length (put xs i ys) ≡ length xs
 put-length [] xs i = refl

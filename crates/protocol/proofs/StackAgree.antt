@@ -1,14 +1,12 @@
 -- What the nodes tell decides whether counts and ranks are right; right ones are unique.
 use mathlib.Core.Path.{_≡_, refl, sym, ap, ap₂, _∙_, subst}
-use mathlib.Core.Logic.{_⊎_, inl, inr}
+use mathlib.Core.Logic.{inl, inr}
 use mathlib.Core.Bool.{cond}
 use mathlib.Core.List.{List, [], _∷_}
-use Prim.Native.Nat.{ℕ, zero, suc, _+_, _≤_, _<_, min}
+use Prim.Native.Nat.{ℕ, zero, suc, _+_, _<_, min}
 use native.Mathlib.Omega.{arith}
 use lib.Dec.{eqb}
 use lib.ListN.{take}
-use Rattle.std.specs.declared.option.Option.{Option}
-use Rattle.std.specs.declared.option.Option.the-variants.{Some, None}
 use Rattle.lists.specs.Members.{Among}
 use Rattle.graph.specs.Model.{Model, Drawn, ports}
 use Rattle.graph.proofs.Drawn.{inside}
@@ -21,7 +19,7 @@ use Rattle.protocol.specs.Outputs.{stored}
 use Rattle.protocol.specs.Layers.{Near, children-among}
 use Rattle.protocol.specs.Count.{CountsRight}
 use Rattle.protocol.specs.Rank.{port-to, earlier, counts-before, RanksRight}
-use Rattle.protocol.proofs.LayerForest.{parents, among-children, parents-inside}
+use Rattle.protocol.proofs.LayerForest.{none-or-some, parents, among-children, parents-inside}
 
 -- chains of nodes stay among the nodes
 up-same : (n : ℕ) (par rap : ℕ → ℕ) → Inside n par → ((v : ℕ) → v < n → par v ≡ rap v) → (k u w : ℕ) → u < n → up par k u ≡ suc w → (w < n) × (up rap k u ≡ suc w)
@@ -79,7 +77,7 @@ module _ (m : Model) (drawn : Drawn m) (s t : ℕ → Output) (near : Near m s) 
     pub ranks-one : (d : ℕ → ℕ) → Depths (m .nodes) (parents s) d → RanksRight m s → RanksRight m t → (k v : ℕ) → v < m .nodes → d v < k → s v .rank ≡ t v .rank
     ranks-one d depths a b zero v l h = absurd (omega arith)
     ranks-one d depths a b (suc k) v l h =
-        elim (none-or (s v .parent)) [
+        elim (none-or-some (s v .parent)) [
           | inl e ↦ a .top v l e ∙ sym (b .top v l (sym (same v l) ∙ e))
           | inr e ↦ (
               let w = e .0 in
@@ -87,7 +85,3 @@ module _ (m : Model) (drawn : Drawn m) (s t : ℕ → Output) (near : Near m s) 
               let r = ranks-one d depths a b k w (j .0) (omega (arith, j .1)) in
               a .next v w l (e .1) ∙ ap₂ (λ x y. min (m .nodes) (x + 1 + y)) r (before-same w v) ∙ sym (b .next v w l (sym (same v l) ∙ e .1)))
         ]
-      where
-        none-or : (o : Option ℕ) → (o ≡ None) ⊎ ((w : ℕ) × (o ≡ Some w))
-        none-or None = inl refl
-        none-or (Some w) = inr (w, refl)

@@ -1,12 +1,9 @@
 -- The theorems about layers and the stack.
-use mathlib.Core.Path.{_≡_, refl, sym, ap, _∙_, subst}
-use mathlib.Core.List.{List}
-use Prim.Native.Nat.{ℕ, suc, _+_, _*_, _/_, _<_, max}
+use mathlib.Core.Path.{_≡_, refl, sym, ap, _∙_}
+use Prim.Native.Nat.{ℕ, suc, _<_}
 use native.Mathlib.Omega.{arith}
-use lib.ListN.{length}
 use Rattle.graph.specs.Model.{Model, Proper, height}
 use Rattle.graph.proofs.Drawn.{arcs-are}
-use Rattle.rounds.specs.Forest.{Depths}
 use Rattle.rounds.specs.Preorder.{Rooted}
 use Rattle.rounds.proofs.RankLaws.{rank-place, rank-each}
 use Rattle.protocol.specs.declared.Output.{Output}
@@ -17,7 +14,7 @@ use Rattle.protocol.specs.Gather.{Gathering}
 use Rattle.protocol.specs.Count.{CountsRight, count}
 use Rattle.protocol.specs.Rank.{RanksRight, rank}
 use Rattle.protocol.specs.Tree.{BreadthFirst, Legitimate, tree}
-use Rattle.protocol.specs.Matching.{Matched, MaximalMatching, matching}
+use Rattle.protocol.specs.Matching.{MaximalMatching, matching}
 use Rattle.protocol.specs.Stack.{LayersStand, tour, stack, Counts, Tours, Agree, StackStands}
 use Rattle.protocol.proofs.FirstLaws.{stored-none}
 use Rattle.protocol.proofs.TreeParents.{parent-legitimate, legitimate-parent, legitimate-tall, tells-tree, tells-one}
@@ -26,8 +23,8 @@ use Rattle.protocol.proofs.MatchingLaws.{matching-laws, matching-stands}
 use Rattle.protocol.proofs.LayerForest.{parents, ordered-children, deep}
 use Rattle.protocol.proofs.LayerLaws.{settles-over, layered-laws}
 use Rattle.protocol.proofs.GatherLaws.{gather-settles, rest-gathered}
-use Rattle.protocol.proofs.CountLaws.{counter-laws, count-laws}
-use Rattle.protocol.proofs.RankLaws.{ranker-laws, rank-laws}
+use Rattle.protocol.proofs.CountLaws.{count-rule, counter-laws, count-laws}
+use Rattle.protocol.proofs.RankLaws.{rank-turn, ranker-laws, rank-laws}
 use Rattle.protocol.proofs.RankPreorder.{ranked}
 use Rattle.protocol.proofs.BesideLaws.{beside-laws}
 use Rattle.protocol.proofs.StackAgree.{counts-same, counts-one, ranks-same, ranks-one}
@@ -38,11 +35,13 @@ layers-stand a g p q = record {
   layer = λ m proper own law. layered-laws m a p proper own law;
   gathers = λ m t h proper law near tall. gather-settles m g proper law t near h tall;
   gathered = λ m t xs proper law ok fix. rest-gathered m g proper law t xs ok fix;
-  counter = counter-laws;
-  count = λ m proper law. count-laws m p proper law;
-  ranker = ranker-laws;
-  rank = λ m proper law. rank-laws m p proper law;
-  beside = λ m proper left right-side. beside-laws m p q proper left right-side;
+  counter-laws = counter-laws;
+  count-laws = λ m proper law. count-laws m p proper law;
+  ranker-laws = ranker-laws;
+  rank-laws = λ m proper law. rank-laws m p proper law;
+  count-rule = count-rule;
+  rank-rule = λ m t v xs proper l ok. rank-turn m proper t v xs l ok;
+  beside-laws = λ m proper left right-side. beside-laws m p q proper left right-side;
 }
 
 -- what legitimate outputs of the tour are made of

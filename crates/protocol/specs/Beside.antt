@@ -1,5 +1,4 @@
 -- Two protocols of one site side by side.
-use mathlib.Core.List.{List}
 use Prim.Native.Nat.{ℕ, _+_, max}
 use Rattle.std.specs.declared.option.Option.{Option}
 use Rattle.protocol.specs.declared.Output.{Output}

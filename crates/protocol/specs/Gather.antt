@@ -57,6 +57,10 @@ gatherer m g tell Meets = record {
   Meets = Meets;
 }
 
+-- no turn changes what is gathered
+abbrev pub GatherFixed : Model → Gathering → (ℕ → Output) → List ℕ → Type 0
+GatherFixed m g t xs = (v : ℕ) → v < m .nodes → gather-rule m g t v xs ≡ xs
+
 -- every reading is gathered from the others
 abbrev pub Gathered : Model → (g : Gathering) → (ℕ → Output) → (ℕ → g .Reading) → Type 0
 Gathered m g t f = (v : ℕ) → v < m .nodes → f v ≡ gathered m g t f v

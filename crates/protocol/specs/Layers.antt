@@ -11,7 +11,7 @@ use Rattle.graph.specs.Model.{Model, ports}
 use Rattle.rounds.specs.Runs.{From}
 use Rattle.protocol.specs.declared.Output.{Output}
 use Rattle.protocol.specs.Outputs.{stored, Tall}
-use Rattle.protocol.specs.Protocols.{Protocol, Registers, Laws}
+use Rattle.protocol.specs.Protocols.{Protocol, Registers}
 
 -- the children of v among the nodes of a list, in its order: those whose told parent is v
 abbrev pub children-among : (ℕ → Output) → ℕ → List ℕ → List ℕ

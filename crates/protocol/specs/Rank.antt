@@ -1,10 +1,11 @@
 -- The layer Rank: every node takes its number from its parent, and numbers its children.
 use mathlib.Core.Path.{_≡_}
+use mathlib.Core.Logic.{_⊎_}
 use mathlib.Core.Bool.{cond}
 use mathlib.Core.List.{List, [], _∷_}
-use Prim.Native.Nat.{ℕ, suc, _+_, _<_, min}
+use Prim.Native.Nat.{ℕ, suc, _+_, _≤_, _<_, min}
 use lib.Dec.{eqb}
-use lib.ListN.{getD, set, take}
+use lib.ListN.{length, getD, set, take}
 use Rattle.std.specs.declared.option.Option.{Option}
 use Rattle.std.specs.declared.option.Option.the-variants.{Some, None}
 use Rattle.graph.specs.Model.{Model, ports, arcs-before, arcs}
@@ -46,6 +47,18 @@ put xs i (y ∷ ys) = put (set xs i y) (suc i) ys
 -- v writes its rank, and then its slots by that rank
 abbrev pub rank-rule : Model → (ℕ → Output) → ℕ → List ℕ → List ℕ
 rank-rule m t v xs = put (set xs v (rank-from m (t v .parent) v xs)) (m .nodes + arcs-before m v) (slots (m .nodes) t v (rank-from m (t v .parent) v xs + 1) (ports m v))
+
+-- the number that v, of rank r, gives the neighbour at port j: to a child the one after v itself and the subtrees of the children
+-- at earlier ports, at most the number of nodes; to any other 0
+abbrev pub number-given : Model → (ℕ → Output) → ℕ → ℕ → ℕ → ℕ
+number-given m t v r j = cond (eqb (stored (t (getD (ports m v) j 0) .parent)) (suc v)) (min (m .nodes) (r + 1 + sumOver (λ c. t c .count) (children-among t v (take j (ports m v))))) 0
+
+-- what a turn of v makes of the registers xs, as its rank and its slots tell
+pub record RankTurn (m : Model) (t : ℕ → Output) (v : ℕ) (xs ys : List ℕ) : Type 0 where
+  pub same-length : length ys ≡ length xs
+  pub rank : getD ys v 0 ≡ rank-from m (t v .parent) v xs
+  pub slots : (j : ℕ) → j < length (ports m v) → getD ys (m .nodes + arcs-before m v + j) 0 ≡ number-given m t v (getD ys v 0) j
+  pub others : (i : ℕ) → (i ≡ v → ⊥) → (i < m .nodes + arcs-before m v) ⊎ (m .nodes + arcs-before m v + length (ports m v) ≤ i) → getD ys i 0 ≡ getD xs i 0
 
 -- the counts of w's children at ports before the one that leads to v
 abbrev pub counts-before : Model → (ℕ → Output) → ℕ → ℕ → ℕ

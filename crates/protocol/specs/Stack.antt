@@ -1,25 +1,22 @@
 -- The program's stack of protocols, and the theorems about layers, about what it tells at rest, and about its numbers.
 use mathlib.Core.Path.{_≡_}
 use mathlib.Core.List.{List}
-use Prim.Native.Nat.{ℕ, suc, _+_, _*_, _/_, _<_, max}
-use lib.ListN.{length, getD}
-use Rattle.graph.specs.Model.{Model, Proper, height}
+use Prim.Native.Nat.{ℕ, suc, _+_, _*_, _/_, _<_, min, max}
+use lib.ListN.{length, getD, set}
+use Rattle.graph.specs.Model.{Model, Proper, arcs, height}
+use Rattle.rounds.specs.Forest.{sumOver}
 use Rattle.rounds.specs.Preorder.{preorder}
 use Rattle.rounds.specs.Runs.{From}
 use Rattle.protocol.specs.declared.Output.{Output}
 use Rattle.protocol.specs.Outputs.{Tall}
 use Rattle.protocol.specs.Protocols.{Protocol, Registers, Laws}
 use Rattle.protocol.specs.Layers.{Layer, LayerLaws, layered, SettlesOver, Near, children}
-use Rattle.protocol.specs.Gather.{Gathering, GatheringLaws, gather-rule, reading, Gathered}
+use Rattle.protocol.specs.Gather.{Gathering, gather-rule, reading, GatherFixed, Gathered, GatheringLaws}
 use Rattle.protocol.specs.Count.{CountsRight, counter, count}
-use Rattle.protocol.specs.Rank.{ranker, rank}
+use Rattle.protocol.specs.Rank.{RankTurn, ranker, rank}
 use Rattle.protocol.specs.Beside.{beside}
 use Rattle.protocol.specs.Tree.{BreadthFirst, tree}
 use Rattle.protocol.specs.Matching.{MaximalMatching, matching}
-
--- no turn changes what is gathered
-abbrev pub GatherFixed : Model → Gathering → (ℕ → Output) → List ℕ → Type 0
-GatherFixed m g t xs = (v : ℕ) → v < m .nodes → gather-rule m g t v xs ≡ xs
 
 -- the laws of layers: a is any layer, g any gathering, p and q any protocols
 pub record LayersStand (a : Layer) (g : Gathering) (p q : Protocol) : Type 0 where
@@ -30,12 +27,15 @@ pub record LayersStand (a : Layer) (g : Gathering) (p q : Protocol) : Type 0 whe
   pub gathers : (m : Model) (t : ℕ → Output) (h : ℕ) → Proper m → GatheringLaws m g → Near m t → Tall (m .nodes) t h → From (gather-rule m g t) (m .nodes) (Registers (g .size)) (suc h) (GatherFixed m g t)
   pub gathered : (m : Model) (t : ℕ → Output) (xs : List ℕ) → Proper m → GatheringLaws m g → Registers (g .size) xs → GatherFixed m g t xs → Gathered m g t (reading m g xs)
   -- Count and Rank keep the laws of layers, and over a protocol they are protocols
-  pub counter : (m : Model) → Proper m → LayerLaws m (counter m)
-  pub count : (m : Model) → Proper m → Laws m p → Laws m (count m p)
-  pub ranker : (m : Model) → Proper m → LayerLaws m (ranker m)
-  pub rank : (m : Model) → Proper m → Laws m p → Laws m (rank m p)
+  pub counter-laws : (m : Model) → Proper m → LayerLaws m (counter m)
+  pub count-laws : (m : Model) → Proper m → Laws m p → Laws m (count m p)
+  pub ranker-laws : (m : Model) → Proper m → LayerLaws m (ranker m)
+  pub rank-laws : (m : Model) → Proper m → Laws m p → Laws m (rank m p)
+  -- what their rules write, in plain words
+  pub count-rule : (m : Model) (t : ℕ → Output) (v : ℕ) (xs : List ℕ) → counter m .rule t v xs ≡ set xs v (min (m .nodes) (1 + sumOver (λ c. getD xs c 0) (children m t v)))
+  pub rank-rule : (m : Model) (t : ℕ → Output) (v : ℕ) (xs : List ℕ) → Proper m → v < m .nodes → Registers (m .nodes + arcs m) xs → RankTurn m t v xs (ranker m .rule t v xs)
   -- two protocols side by side are one
-  pub beside : (m : Model) → Proper m → Laws m p → Laws m q → Laws m (beside p q)
+  pub beside-laws : (m : Model) → Proper m → Laws m p → Laws m q → Laws m (beside p q)
 
 -- Tree, Count over it, Rank over both
 abbrev pub tour : Model → Protocol
