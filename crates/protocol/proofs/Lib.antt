@@ -7,6 +7,7 @@ pub mod MatchingPairs
 pub mod MatchingRising
 pub mod MatchingSettles
 pub mod MatchingRest
+pub mod MatchingMaximal
 pub mod MatchingLaws
 pub mod LayerForest
 pub mod LayerTurns

@@ -1,7 +1,6 @@
 -- At rest every node that names another is paired, so told mates are a matching that leaves no link free.
-use mathlib.Core.Path.{_≡_, refl, sym, ap, _∙_, subst}
+use mathlib.Core.Path.{_≡_, refl, ap, _∙_, subst}
 use mathlib.Core.Logic.{_⊎_, inl, inr}
-use mathlib.Core.Bool.{true, false, cond}
 use mathlib.Core.List.{List}
 use Prim.Native.Nat.{ℕ, zero, suc, _<_}
 use native.Mathlib.Omega.{arith}
@@ -14,21 +13,20 @@ use Rattle.lists.specs.Members.{Among}
 use Rattle.graph.specs.Model.{Model, ports, Drawn}
 use Rattle.graph.proofs.Drawn.{inside, both}
 use Rattle.protocol.specs.First.{held}
-use Rattle.protocol.specs.Matching.{new-register, register, Rest, naming, mate, Matched, matching}
+use Rattle.protocol.specs.Matching.{new-register, register, Rest, naming, mate, Matched, matching, MateTold}
 use Rattle.protocol.proofs.FirstLaws.{held-some, held-among}
-use Rattle.protocol.proofs.MatchingRules.{Way, strays, accepts, proposes, abandons, waits, mated, alone, way, new-accepts}
+use Rattle.protocol.proofs.MatchingRules.{Tells, Way, strays, accepts, proposes, abandons, waits, mated, alone, way, new-accepts}
 use Rattle.protocol.proofs.MatchingPairs.{Paired}
 
 naming-some : (f : ℕ → ℕ) (v : ℕ) (o : Option ℕ) (u : ℕ) → naming f v o ≡ Some u → (o ≡ Some u) × (f u ≡ suc v)
 naming-some f v None u e = absurd (let z : _≡_ {A = ℕ} 0 1 = cc in omega arith)
 naming-some f v (Some w) u e = go (eqb-tells (f w) (suc v))
   where
-    go : ((eqb (f w) (suc v) ≡ true) × (f w ≡ suc v)) ⊎ ((eqb (f w) (suc v) ≡ false) × (f w ≡ suc v → ⊥)) → (Some w ≡ Some u) × (f u ≡ suc v)
+    go : Tells (eqb (f w) (suc v)) (f w ≡ suc v) → (Some w ≡ Some u) × (f u ≡ suc v)
     go (inl t) = let s : Some w ≡ Some u = rw (t .0) at e in let q : w ≡ u = cc in (s, subst (λ z. f z ≡ suc v) q (t .1))
     go (inr t) = let s : None ≡ Some u = rw (t .0) at e in absurd (let z : _≡_ {A = ℕ} 0 1 = cc in omega arith)
 
 module _ (m : Model) (f : ℕ → ℕ) where
-  -- a told mate is paired with the node, and a paired node tells its mate
   pub mate-pairs : (v u : ℕ) → mate m f v ≡ Some u → Among u (ports m v) × (f v ≡ suc u) × (f u ≡ suc v)
   mate-pairs v u e = let t = naming-some f v (held (ports m v) (f v)) u e in let h = held-some (ports m v) (f v) u (t .0) in (h .0, h .1, t .1)
 
@@ -36,6 +34,9 @@ module _ (m : Model) (f : ℕ → ℕ) where
   pairs-mate v u a e h =
       let n : naming f v (Some u) ≡ Some u = rw (eq-eqb (f u) (suc v) h) in
       ap (λ z. naming f v (held (ports m v) z)) e ∙ (ap (naming f v) (held-among (ports m v) u a) ∙ n)
+
+pub mate-told : MateTold
+mate-told m f v u = (mate-pairs m f v u, λ t. pairs-mate m f v u (t .0) (t .1) (t .2))
 
 module _ (m : Model) (drawn : Drawn m) (f : ℕ → ℕ) (rest : (v : ℕ) → v < m .nodes → new-register m f v ≡ f v) where
   rest-pairs : (v j : ℕ) → v < m .nodes → f v ≡ suc j → Paired m f v

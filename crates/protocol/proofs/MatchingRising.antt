@@ -10,7 +10,7 @@ use Rattle.graph.specs.Model.{Model, ports, Drawn}
 use Rattle.graph.proofs.Drawn.{inside, both, apart}
 use Rattle.protocol.specs.Matching.{new-register}
 use Rattle.protocol.proofs.MatchingRules.{Way, strays, accepts, proposes, abandons, waits, mated, alone, way}
-use Rattle.protocol.proofs.MatchingPairs.{Paired, pairs, Courted, Moves, free-unpaired, suitor-unpaired, move-way, paired-stays, pairs-grow, pairs-more, courted-pairs, courted-stays}
+use Rattle.protocol.proofs.MatchingPairs.{Paired, pairs, Courted, Moves, suitor-unpaired, move-way, paired-stays, pairs-grow, pairs-more, courted-pairs, courted-stays}
 
 -- two more than c nodes are paired, or some node is courted
 abbrev pub Rising : Model → ℕ → (ℕ → ℕ) → Type 0

@@ -1,12 +1,12 @@
 -- What the rules of the matching make of a register.
 use mathlib.Core.Path.{_≡_, refl, sym, ap, _∙_, subst}
 use mathlib.Core.Logic.{_⊎_, inl, inr}
-use mathlib.Core.Bool.{true, false, cond}
+use mathlib.Core.Bool.{Bool, true, false}
 use mathlib.Core.List.{List}
 use Prim.Native.Nat.{ℕ, zero, suc, _≤_, _<_}
 use native.Mathlib.Omega.{arith}
 use lib.Dec.{eqb}
-use Rattle.std.proofs.shelf.Tests.{cases-order, eqb-true, eqb-false, eq-eqb, ne-eqb}
+use Rattle.std.proofs.shelf.Tests.{cases-order, eqb-true, eqb-false, eq-eqb}
 use Rattle.std.proofs.shelf.Ways.{eqb-tells}
 use Rattle.std.specs.declared.option.Option.the-variants.{Some, None}
 use Rattle.lists.specs.Members.{Among}
@@ -26,21 +26,31 @@ pub data Way (m : Model) (f : ℕ → ℕ) (v x : ℕ) : Type 0 where
   mated : (j : ℕ) → f v ≡ suc j → Among j (ports m v) → f j ≡ suc v → x ≡ suc j → Way m f v x
   alone : f v ≡ 0 → ((u : ℕ) → Among u (ports m v) → f u ≡ suc v → ⊥) → ((u : ℕ) → Among u (ports m v) → f u ≡ 0 → ⊥) → x ≡ 0 → Way m f v x
 
--- the first neighbour whose register is a, or that there is none
-first-with : (f : ℕ → ℕ) (a : ℕ) (xs : List ℕ) → ((u : ℕ) × Among u xs × (f u ≡ a) × (first (λ u. eqb (f u) a) xs ≡ Some u)) ⊎ ((first (λ u. eqb (f u) a) xs ≡ None) × ((u : ℕ) → Among u xs → f u ≡ a → ⊥))
-first-with f a xs = elim (first-cases (λ u. eqb (f u) a) xs) [ inl t ↦ inl (t .0, t .1, eqb-true (f (t .0)) a (t .2), t .3) | inr t ↦ inr (t .0, λ u h. eqb-false (f u) a (t .1 u h)) ]
+-- a test with what it tells
+abbrev pub Tells : Bool → Type 0 → Type 0
+Tells b P = ((b ≡ true) × P) ⊎ ((b ≡ false) × (P → ⊥))
+
+-- the first of a list whose register is a, or that there is none
+abbrev FirstWith : (ℕ → ℕ) → ℕ → List ℕ → Type 0
+FirstWith f a xs = ((u : ℕ) × Among u xs × (f u ≡ a) × (first (λ w. eqb (f w) a) xs ≡ Some u)) ⊎ ((first (λ w. eqb (f w) a) xs ≡ None) × ((u : ℕ) → Among u xs → f u ≡ a → ⊥))
+
+first-with : (f : ℕ → ℕ) (a : ℕ) (xs : List ℕ) → FirstWith f a xs
+first-with f a xs = elim (first-cases (λ w. eqb (f w) a) xs) [
+  | inl t ↦ inl (t .0, t .1, eqb-true (f (t .0)) a (t .2), t .3)
+  | inr t ↦ inr (t .0, λ u h. eqb-false (f u) a (t .1 u h))
+]
 
 module _ (m : Model) (f : ℕ → ℕ) (v : ℕ) where
   way-at : (x : ℕ) → f v ≡ x → Way m f v (renewed m f v x)
   way-at zero e = go (first-with f (suc v) (ports m v)) (first-with f 0 (ports m v))
     where
-      go : ((u : ℕ) × Among u (ports m v) × (f u ≡ suc v) × (first (λ u. eqb (f u) (suc v)) (ports m v) ≡ Some u)) ⊎ ((first (λ u. eqb (f u) (suc v)) (ports m v) ≡ None) × ((u : ℕ) → Among u (ports m v) → f u ≡ suc v → ⊥)) → ((u : ℕ) × Among u (ports m v) × (f u ≡ 0) × (first (λ u. eqb (f u) 0) (ports m v) ≡ Some u)) ⊎ ((first (λ u. eqb (f u) 0) (ports m v) ≡ None) × ((u : ℕ) → Among u (ports m v) → f u ≡ 0 → ⊥)) → Way m f v (renewed m f v zero)
+      go : FirstWith f (suc v) (ports m v) → FirstWith f 0 (ports m v) → Way m f v (renewed m f v zero)
       go (inl a) b = accepts (a .0) e (a .1) (a .2) (first-some (λ u. eqb (f u) (suc v)) (ports m v) (a .0) (a .3)) (rw (a .3))
       go (inr a) (inl b) = proposes (b .0) e (a .1) (b .1) (b .2) (first-some (λ u. eqb (f u) 0) (ports m v) (b .0) (b .3)) (rw (a .0, b .3))
       go (inr a) (inr b) = alone e (a .1) (b .1) (rw (a .0, b .0))
   way-at (suc j) e = go (mem-tells j (ports m v)) (eqb-tells (f j) 0) (eqb-tells (f j) (suc v))
     where
-      go : ((mem j (ports m v) ≡ true) × Among j (ports m v)) ⊎ ((mem j (ports m v) ≡ false) × (Among j (ports m v) → ⊥)) → ((eqb (f j) 0 ≡ true) × (f j ≡ 0)) ⊎ ((eqb (f j) 0 ≡ false) × (f j ≡ 0 → ⊥)) → ((eqb (f j) (suc v) ≡ true) × (f j ≡ suc v)) ⊎ ((eqb (f j) (suc v) ≡ false) × (f j ≡ suc v → ⊥)) → Way m f v (renewed m f v (suc j))
+      go : Tells (mem j (ports m v)) (Among j (ports m v)) → Tells (eqb (f j) 0) (f j ≡ 0) → Tells (eqb (f j) (suc v)) (f j ≡ suc v) → Way m f v (renewed m f v (suc j))
       go (inr a) b c = strays j e (a .1) (rw (a .0))
       go (inl a) (inl b) c = waits j e (a .1) (b .1) (rw (a .0, b .0))
       go (inl a) (inr b) (inl c) = mated j e (a .1) (c .1) (rw (a .0, b .0, c .0))

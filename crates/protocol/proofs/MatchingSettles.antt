@@ -14,7 +14,7 @@ use Rattle.rounds.specs.Runs.{run, Kept, From}
 use Rattle.rounds.proofs.RunsLaws.{kept-run, compose, one-round}
 use Rattle.protocol.specs.Matching.{new-register, register, turn, Rest}
 use Rattle.protocol.proofs.MatchingPairs.{Paired, pairs, Courted, Moves, free-unpaired, suitor-unpaired, pairs-most, pairs-two-free, pairs-grow}
-use Rattle.protocol.proofs.MatchingRising.{Rising, Calm, BothFree, both-free?, calm-rests, courted-turn, more-stays, courted-on, rising-stays, calm-turn, calm-stays, free-turn, free-stays}
+use Rattle.protocol.proofs.MatchingRising.{Rising, Calm, both-free?, calm-rests, courted-turn, more-stays, courted-on, rising-stays, calm-turn, calm-stays, free-turn, free-stays}
 
 -- as many registers as nodes, of which c at least are paired
 abbrev AtLeast : Model → ℕ → List ℕ → Type 0

@@ -140,8 +140,14 @@ pub record MaximalMatching (m : Model) (t : ℕ → Output) : Type 0 where
 abbrev pub RuleFits : Type 0
 RuleFits = (m : Model) (f : ℕ → ℕ) (v : ℕ) → (r : Rule) × Fits m f v r × ((q : Rule) → Fits m f v q → q ≡ r) × Gives m f v r (new-register m f v)
 
--- the protocol is lawful at every site, and its legitimate outputs are a maximal matching
+-- a mate is told exactly where two neighbours name each other
+abbrev pub MateTold : Type 0
+MateTold = (m : Model) (f : ℕ → ℕ) (v u : ℕ) → (mate m f v ≡ Some u → Among u (ports m v) × (f v ≡ suc u) × (f u ≡ suc v)) × (Among u (ports m v) × (f v ≡ suc u) × (f u ≡ suc v) → mate m f v ≡ Some u)
+
+-- the protocol is lawful at every site, and its legitimate outputs are exactly the maximal matchings
 pub record MatchingLaws : Type 0 where
   pub rules : RuleFits
+  pub mates : MateTold
   pub laws : (m : Model) → Proper m → Laws m (matching m)
   pub maximal : (m : Model) → Proper m → (t : ℕ → Output) → matching m .Legitimate t → MaximalMatching m t
+  pub legitimate : (m : Model) → Proper m → (t : ℕ → Output) → MaximalMatching m t → matching m .Legitimate t
