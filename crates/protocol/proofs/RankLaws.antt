@@ -8,7 +8,7 @@ use lib.ListN.{length, getD, set, length-set}
 use Rattle.std.specs.declared.option.Option.{Option}
 use Rattle.std.specs.declared.option.Option.the-variants.{Some, None}
 use Rattle.std.proofs.shelf.Elements.{all-set}
-use Rattle.std.proofs.shelf.Lists.{getD-set-same, getD-set-other}
+use Rattle.std.proofs.shelf.Lists.{getD-set-same, getD-set-other, ext-getD}
 use Rattle.std.proofs.shelf.Tests.{cases-eq}
 use Rattle.lists.proofs.Decisions.{either?, both?, lt?, le?}
 use Rattle.graph.specs.Model.{Model, Proper, ports, arcs-before, arcs}
@@ -23,6 +23,30 @@ use Rattle.protocol.proofs.LayerForest.{parents, child-port, deep}
 use Rattle.protocol.proofs.LayerOwned.{Owned, owned-settles}
 use Rattle.protocol.proofs.LayerLaws.{layered-laws}
 use Rattle.protocol.proofs.RankSlots.{arcs-next, port-low, slots-length, slots-small, slots-at, slot-at, put-length, put-all, put-other, put-here}
+
+-- what is said of a turn leaves nothing open
+pub rank-turn-one : (m : Model) (t : ℕ → Output) (v : ℕ) (xs ys zs : List ℕ) → v < m .nodes → RankTurn m t v xs ys → RankTurn m t v xs zs → ys ≡ zs
+rank-turn-one m t v xs ys zs l a b = ext-getD 0 ys zs (a .same-length ∙ sym (b .same-length)) (λ i _. at i)
+  where
+    at-rank : getD ys v 0 ≡ getD zs v 0
+    at-rank = a .rank ∙ sym (b .rank)
+
+    at : (i : ℕ) → getD ys i 0 ≡ getD zs i 0
+    at i =
+        let base = m .nodes + arcs-before m v in
+        elim (cases-eq i v) [
+          | inl e ↦ subst (λ z. getD ys z 0 ≡ getD zs z 0) (sym e) at-rank
+          | inr e ↦ elim (lt? i base) [
+            | inl p ↦ a .others i e (inl p) ∙ sym (b .others i e (inl p))
+            | inr p ↦ elim (lt? i (base + length (ports m v))) [
+              | inl q ↦ (
+                  let y : base + (i - base) ≡ i = omega (arith, p) in
+                  let k : i - base < length (ports m v) = omega (arith, p, q) in
+                  subst (λ z. getD ys z 0 ≡ getD zs z 0) y (a .slots (i - base) k ∙ ap (λ r. number-given m t v r (i - base)) at-rank ∙ sym (b .slots (i - base) k)))
+              | inr q ↦ (let k : base + length (ports m v) ≤ i = omega (arith, q) in a .others i e (inr k) ∙ sym (b .others i e (inr k)))
+            ]
+          ]
+        ]
 
 module _ (m : Model) (proper : Proper m) (t : ℕ → Output) where
   abbrev Ok : List ℕ → Type 0

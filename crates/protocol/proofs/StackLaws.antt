@@ -1,21 +1,25 @@
 -- The theorems about layers and the stack.
 use mathlib.Core.Path.{_≡_, refl, sym, ap, _∙_}
+use mathlib.Core.List.{List}
 use Prim.Native.Nat.{ℕ, suc, _<_}
 use native.Mathlib.Omega.{arith}
 use Rattle.graph.specs.Model.{Model, Proper, height}
 use Rattle.graph.proofs.Drawn.{arcs-are}
 use Rattle.rounds.specs.Preorder.{Rooted}
+use Rattle.rounds.specs.Rounds.{Completes}
+use Rattle.rounds.specs.Runs.{run, Below}
 use Rattle.rounds.proofs.RankLaws.{rank-place, rank-each}
+use Rattle.rounds.proofs.RunsLaws.{kept-run}
 use Rattle.protocol.specs.declared.Output.{Output}
 use Rattle.protocol.specs.Outputs.{stored, with-mate}
-use Rattle.protocol.specs.Protocols.{Protocol, Laws}
+use Rattle.protocol.specs.Protocols.{Protocol, Registers, Laws}
 use Rattle.protocol.specs.Layers.{Layer, Near, children}
 use Rattle.protocol.specs.Gather.{Gathering}
 use Rattle.protocol.specs.Count.{CountsRight, count}
-use Rattle.protocol.specs.Rank.{RanksRight, rank}
+use Rattle.protocol.specs.Rank.{RanksRight, ranker, rank}
 use Rattle.protocol.specs.Tree.{BreadthFirst, Legitimate, tree}
 use Rattle.protocol.specs.Matching.{MaximalMatching, matching}
-use Rattle.protocol.specs.Stack.{LayersStand, tour, stack, Counts, Tours, Agree, StackStands}
+use Rattle.protocol.specs.Stack.{LayersStand, tour, stack, Counts, Tours, Tells, Agree, StackStands}
 use Rattle.protocol.proofs.FirstLaws.{stored-none}
 use Rattle.protocol.proofs.TreeParents.{parent-legitimate, legitimate-parent, legitimate-tall, tells-tree, tells-one}
 use Rattle.protocol.proofs.TreeLaws.{tree-laws}
@@ -24,7 +28,7 @@ use Rattle.protocol.proofs.LayerForest.{parents, ordered-children, deep}
 use Rattle.protocol.proofs.LayerLaws.{settles-over, layered-laws}
 use Rattle.protocol.proofs.GatherLaws.{gather-settles, rest-gathered}
 use Rattle.protocol.proofs.CountLaws.{count-rule, counter-laws, count-laws}
-use Rattle.protocol.proofs.RankLaws.{rank-turn, ranker-laws, rank-laws}
+use Rattle.protocol.proofs.RankLaws.{rank-turn-one, rank-turn, ranker-laws, rank-laws}
 use Rattle.protocol.proofs.RankPreorder.{ranked}
 use Rattle.protocol.proofs.BesideLaws.{beside-laws}
 use Rattle.protocol.proofs.StackAgree.{counts-same, counts-one, ranks-same, ranks-one}
@@ -41,6 +45,7 @@ layers-stand a g p q = record {
   rank-laws = λ m proper law. rank-laws m p proper law;
   count-rule = count-rule;
   rank-rule = λ m t v xs proper l ok. rank-turn m proper t v xs l ok;
+  rank-only = λ m t v xs ys proper l ok r. rank-turn-one m t v xs ys (ranker m .rule t v xs) l r (rank-turn m proper t v xs l ok);
   beside-laws = λ m proper left right-side. beside-laws m p q proper left right-side;
 }
 
@@ -106,12 +111,23 @@ module _ (m : Model) (proper : Proper m) where
   pub stack-laws : Laws m (stack m)
   stack-laws = beside-laws m (tour m) (matching m) proper (rank-laws m (count m (tree m)) proper (count-laws m (tree m) proper (tree-laws m proper))) (matching-laws m proper)
 
-  stack-means : (t : ℕ → Output) → stack m .Legitimate t → Counts m t × Tours m t × MaximalMatching m t
-  stack-means t h =
+  stack-parts : (t : ℕ → Output) → stack m .Legitimate t → tour m .Legitimate t × MaximalMatching m t
+  stack-parts t h =
       let s : ℕ → Output = λ v. with-mate (t v) (h .0 .0 v) in
-      let a = toured t (same s t (parts s (h .0 .1)) (λ v l. (refl, refl, refl))) in
       let b = h .1 .1 in
-      (a .0, a .1, matching-stands .maximal m proper t (record { near = b .near; both = b .both; full = b .full }))
+      (whole t (same s t (parts s (h .0 .1)) (λ v l. (refl, refl, refl))), matching-stands .maximal m proper t (record { near = b .near; both = b .both; full = b .full }))
+
+  parts-stack : (t : ℕ → Output) → tour m .Legitimate t × MaximalMatching m t → stack m .Legitimate t
+  parts-stack t h = (((λ v. t v .mate), h .0), (t, matching-stands .legitimate m proper t (h .1)))
+
+  stack-tells : (t : ℕ → Output) → stack m .Legitimate t → Tells m t
+  stack-tells t h = let p = stack-parts t h in let a = toured t (parts t (p .0)) in record { counts = a .0; tours = a .1; mates = p .1 }
+
+  stack-settles : (xs ts : List ℕ) → Registers (stack m .size) xs → Below (m .nodes) ts → Completes (m .nodes) (stack m .bound) ts → Tells m (stack m .output (run (stack m .turn) ts xs))
+  stack-settles xs ts r b k =
+      let law = stack-laws in
+      let ys = run (stack m .turn) ts xs in
+      stack-tells (stack m .output ys) (law .right ys (kept-run (List ℕ) (stack m .turn) (Registers (stack m .size)) (m .nodes) (law .keeps) ts xs b r) (law .settles xs ts r b k))
 
 pub stack-stands : StackStands
 stack-stands = record {
@@ -121,7 +137,8 @@ stack-stands = record {
   height = λ m. refl;
   counts = λ m proper t h. counted m proper t h;
   tours = λ m proper t h. toured m proper t (parts m proper t h);
-  means = λ m proper t h. stack-means m proper t h;
+  parts = λ m proper t. (stack-parts m proper t, parts-stack m proper t);
+  settles = λ m proper xs ts r b k. stack-settles m proper xs ts r b k;
   one = λ m proper s t a b. agree m proper s t (parts m proper s a) (parts m proper t b);
   same = λ m proper s t a e. whole m proper t (same m proper s t (parts m proper s a) e);
 }

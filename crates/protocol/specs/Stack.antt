@@ -6,7 +6,8 @@ use lib.ListN.{length, getD, set}
 use Rattle.graph.specs.Model.{Model, Proper, arcs, height}
 use Rattle.rounds.specs.Forest.{sumOver}
 use Rattle.rounds.specs.Preorder.{preorder}
-use Rattle.rounds.specs.Runs.{From}
+use Rattle.rounds.specs.Rounds.{Completes}
+use Rattle.rounds.specs.Runs.{run, Below, From}
 use Rattle.protocol.specs.declared.Output.{Output}
 use Rattle.protocol.specs.Outputs.{Tall}
 use Rattle.protocol.specs.Protocols.{Protocol, Registers, Laws}
@@ -31,9 +32,10 @@ pub record LayersStand (a : Layer) (g : Gathering) (p q : Protocol) : Type 0 whe
   pub count-laws : (m : Model) → Proper m → Laws m p → Laws m (count m p)
   pub ranker-laws : (m : Model) → Proper m → LayerLaws m (ranker m)
   pub rank-laws : (m : Model) → Proper m → Laws m p → Laws m (rank m p)
-  -- what their rules write, in plain words
+  -- what their rules write, in plain words; for Rank that is all there is to say of a turn
   pub count-rule : (m : Model) (t : ℕ → Output) (v : ℕ) (xs : List ℕ) → counter m .rule t v xs ≡ set xs v (min (m .nodes) (1 + sumOver (λ c. getD xs c 0) (children m t v)))
   pub rank-rule : (m : Model) (t : ℕ → Output) (v : ℕ) (xs : List ℕ) → Proper m → v < m .nodes → Registers (m .nodes + arcs m) xs → RankTurn m t v xs (ranker m .rule t v xs)
+  pub rank-only : (m : Model) (t : ℕ → Output) (v : ℕ) (xs ys : List ℕ) → Proper m → v < m .nodes → Registers (m .nodes + arcs m) xs → RankTurn m t v xs ys → ys ≡ ranker m .rule t v xs
   -- two protocols side by side are one
   pub beside-laws : (m : Model) → Proper m → Laws m p → Laws m q → Laws m (beside p q)
 
@@ -57,6 +59,12 @@ pub record Tours (m : Model) (t : ℕ → Output) : Type 0 where
   -- each of 0 to n - 1 is the rank of one node
   pub each : (k : ℕ) → k < m .nodes → (v : ℕ) × (v < m .nodes) × (t v .rank ≡ k) × ((u : ℕ) → u < m .nodes → t u .rank ≡ k → u ≡ v)
 
+-- outputs tell a breadth-first tree with the sizes of its subtrees, its depth-first numbering, and a maximal matching
+pub record Tells (m : Model) (t : ℕ → Output) : Type 0 where
+  pub counts : Counts m t
+  pub tours : Tours m t
+  pub mates : MaximalMatching m t
+
 -- the nodes tell the same parents, counts and ranks
 abbrev pub Agree : ℕ → (ℕ → Output) → (ℕ → Output) → Type 0
 Agree n s t = (v : ℕ) → v < n → (s v .parent ≡ t v .parent) × (s v .count ≡ t v .count) × (s v .rank ≡ t v .rank)
@@ -67,10 +75,12 @@ pub record StackStands : Type 0 where
   pub size : (m : Model) → Proper m → stack m .size ≡ 5 * m .nodes + 2 * length (m .links)
   pub bound : (m : Model) → stack m .bound ≡ max (3 * (height m + 1)) (3 * (m .nodes / 2) + 1)
   pub height : (m : Model) → stack m .height ≡ height m
-  -- what legitimate outputs mean
+  -- what legitimate outputs tell
   pub counts : (m : Model) → Proper m → (t : ℕ → Output) → count m (tree m) .Legitimate t → Counts m t
   pub tours : (m : Model) → Proper m → (t : ℕ → Output) → tour m .Legitimate t → Counts m t × Tours m t
-  pub means : (m : Model) → Proper m → (t : ℕ → Output) → stack m .Legitimate t → Counts m t × Tours m t × MaximalMatching m t
+  pub parts : (m : Model) → Proper m → (t : ℕ → Output) → (stack m .Legitimate t → tour m .Legitimate t × MaximalMatching m t) × (tour m .Legitimate t × MaximalMatching m t → stack m .Legitimate t)
+  -- from any registers, any turns that complete as many rounds as the bound end where all of that is told
+  pub settles : (m : Model) → Proper m → (xs ts : List ℕ) → Registers (stack m .size) xs → Below (m .nodes) ts → Completes (m .nodes) (stack m .bound) ts → Tells m (stack m .output (run (stack m .turn) ts xs))
   -- legitimate parents, counts and ranks are one and the same, and whatever tells these is legitimate
   pub one : (m : Model) → Proper m → (s t : ℕ → Output) → tour m .Legitimate s → tour m .Legitimate t → Agree (m .nodes) s t
   pub same : (m : Model) → Proper m → (s t : ℕ → Output) → tour m .Legitimate s → Agree (m .nodes) s t → tour m .Legitimate t
