@@ -9,3 +9,17 @@ pub mod MatchingSettles
 pub mod MatchingRest
 pub mod MatchingMaximal
 pub mod MatchingLaws
+pub mod LayerForest
+pub mod LayerTurns
+pub mod LayerLaws
+pub mod LayerOwned
+pub mod GatherBlocks
+pub mod GatherLaws
+pub mod CountLaws
+pub mod RankSlots
+pub mod RankLaws
+pub mod RankPreorder
+pub mod BesideLaws
+pub mod StackAgree
+pub mod StackLaws
+pub mod CasesLaws

@@ -3,3 +3,10 @@ pub mod Protocols
 pub mod First
 pub mod Tree
 pub mod Matching
+pub mod Layers
+pub mod Gather
+pub mod Count
+pub mod Rank
+pub mod Beside
+pub mod Stack
+pub mod Cases

@@ -1,5 +1,10 @@
 //! What a silent protocol means at a site, and the laws that every one owes; the meaning of ours, and their proofs.
+ghost use Rattle.protocol.specs.Cases.{Table};
+ghost use Rattle.protocol.specs.Gather.{Gathering};
+ghost use Rattle.protocol.specs.Layers.{Layer};
 ghost use Rattle.protocol.specs.Matching.{MatchingLaws};
+ghost use Rattle.protocol.specs.Protocols.{Protocol};
+ghost use Rattle.protocol.specs.Stack.{LayersStand, StackStands};
 ghost use Rattle.protocol.specs.Tree.{TreeLaws};
 
 /// What a node tells.
@@ -15,6 +20,17 @@ pub struct Output {
     pub mate: Option<u16>,
 }
 
+/// Any layer, any gathering and any two protocols, so that the laws of layers speak of all.
+pub trait Layering: Sized {
+    ghost layer: { Layer };
+
+    ghost gathering: { Gathering };
+
+    ghost left: { Protocol };
+
+    ghost right: { Protocol };
+}
+
 /// Carries the laws of Tree.
 pub fn tree_stands() -> u8
     ensures { λ _. ⌜ TreeLaws ⌝ }
@@ -25,6 +41,27 @@ pub fn tree_stands() -> u8
 /// Carries the laws of the matching.
 pub fn matching_stands() -> u8
     ensures { λ _. ⌜ MatchingLaws ⌝ }
+{
+    0
+}
+
+/// Carries the laws of layers over any protocol, and of any two protocols side by side.
+pub fn layers_stand<X: Layering>() -> u8
+    ensures { λ _. ⌜ LayersStand (X·Layering .layer) (X·Layering .gathering) (X·Layering .left) (X·Layering .right) ⌝ }
+{
+    0
+}
+
+/// Carries the theorems about the stack.
+pub fn stack_stands() -> u8
+    ensures { λ _. ⌜ StackStands ⌝ }
+{
+    0
+}
+
+/// Carries the worked examples.
+pub fn table_stands() -> u8
+    ensures { λ _. ⌜ Table ⌝ }
 {
     0
 }
