@@ -1,0 +1,12 @@
+use native.Mathlib.Omega.{arith}
+use Rattle.bases.proofs.Sizes.{site-low}
+use Rattle.bases.proofs.tree.calls.TreeSilent.bound.Needs as need
+
+pub cast-result : need.cast-result
+cast-result c = let e = c .height .ensures .value in let l = site-low (c .args .site .now) in omega arith
+
+pub add-result : need.add-result
+add-result c = let e = c .height .ensures .value in let l = site-low (c .args .site .now) in omega arith
+
+pub returns : need.returns
+returns c = let e = c .height .ensures .value in let l = site-low (c .args .site .now) in omega arith
