@@ -2,3 +2,10 @@ pub mod FirstLaws
 pub mod TreeParents
 pub mod TreeTurns
 pub mod TreeLaws
+pub mod MatchingRules
+pub mod MatchingPairs
+pub mod MatchingRising
+pub mod MatchingSettles
+pub mod MatchingRest
+pub mod MatchingMaximal
+pub mod MatchingLaws

@@ -2,3 +2,4 @@ pub mod Outputs
 pub mod Protocols
 pub mod First
 pub mod Tree
+pub mod Matching

@@ -1,4 +1,5 @@
 //! What a silent protocol means at a site, and the laws that every one owes; the meaning of ours, and their proofs.
+ghost use Rattle.protocol.specs.Matching.{MatchingLaws};
 ghost use Rattle.protocol.specs.Tree.{TreeLaws};
 
 /// What a node tells.
@@ -17,6 +18,13 @@ pub struct Output {
 /// Carries the laws of Tree.
 pub fn tree_stands() -> u8
     ensures { λ _. ⌜ TreeLaws ⌝ }
+{
+    0
+}
+
+/// Carries the laws of the matching.
+pub fn matching_stands() -> u8
+    ensures { λ _. ⌜ MatchingLaws ⌝ }
 {
     0
 }
