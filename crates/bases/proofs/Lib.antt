@@ -1,5 +1,7 @@
-pub mod Fronts
+pub mod Widths
 pub mod Scans
 pub mod Sizes
-pub mod TwoBlocks
+pub mod Fronts
+pub mod TwoFronts
 pub mod TreeCalls
+pub mod MatchingCalls

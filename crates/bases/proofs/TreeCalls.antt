@@ -1,12 +1,10 @@
--- What the calls of Tree owe, over the two lists that its blocks hold.
+-- What a turn of Tree owes, over its two blocks.
 use mathlib.Core.Path.{_≡_, refl, sym, ap, ap₂, _∙_}
 use mathlib.Core.Bool.{Bool, cond, _||_}
 use mathlib.Core.List.{List, _++_}
-use Prim.Native.Nat.{ℕ, _+_, _-_, _<_, _≤_, min}
-use native.Mathlib.Omega.{arith}
+use Prim.Native.Nat.{ℕ, _+_, _-_, _<_, min}
 use lib.Dec.{eqb}
-use lib.ListN.{length, getD, set, take}
-use Rattle.std.proofs.shelf.Lists.{length-set}
+use lib.ListN.{getD, set}
 use Rattle.std.specs.declared.option.Option.{Option}
 use Rattle.std.specs.declared.option.Option.the-variants.{None}
 use Rattle.std.specs.declared.result.Result.the-variants.{Ok}
@@ -17,15 +15,15 @@ use Rattle.protocol.specs.Outputs.{stored}
 use Rattle.protocol.specs.Tree.{new-distance, new-parent, tree}
 use Rattle.protocol.proofs.FirstLaws.{first-cong}
 use Rattle.silent.specs.Answers.{Turned}
-use Rattle.bases.specs.Blocks.{Changed}
-use Rattle.bases.proofs.Fronts.{front-length, front-changed}
+use Rattle.bases.specs.declared.block.Block.{Block}
+use Rattle.bases.specs.Blocks.{held, front, Changed}
 use Rattle.bases.proofs.Scans.{least-cong}
-use Rattle.bases.proofs.TwoBlocks.{first-read, first-set, second-set, either-changed}
+use Rattle.bases.proofs.TwoFronts.{first-read, first-set, second-set, both-changed}
 
 -- the rules read the distances of nodes alone
-module _ (m : Model) (proper : Proper m) (f g : ℕ → ℕ) (same : (u : ℕ) → u < m .nodes → f u ≡ g u) (v : ℕ) where
+module _ (m : Model) (p : Proper m) (f g : ℕ → ℕ) (same : (u : ℕ) → u < m .nodes → f u ≡ g u) (v : ℕ) where
   least-same : least f (ports m v) ≡ least g (ports m v)
-  least-same = least-cong f g (ports m v) (λ u a. same u (inside m (proper .drawn) u v a .1))
+  least-same = least-cong f g (ports m v) (λ u a. same u (inside m (p .drawn) u v a .1))
 
   distance-same : new-distance m f v ≡ new-distance m g v
   distance-same = ap (λ (k : ℕ). cond (eqb v (m .root)) 0 (min (k + 1) (m .nodes - 1))) least-same
@@ -33,31 +31,25 @@ module _ (m : Model) (proper : Proper m) (f g : ℕ → ℕ) (same : (u : ℕ) �
   parent-same : new-parent m f v ≡ new-parent m g v
   parent-same =
       ap (λ (o : Option ℕ). cond (eqb v (m .root)) None o)
-      (first-cong (λ u. eqb (f u) (least f (ports m v))) (λ u. eqb (g u) (least g (ports m v))) (ports m v) (λ u a. ap₂ eqb (same u (inside m (proper .drawn) u v a .1)) least-same))
+      (first-cong (λ u. eqb (f u) (least f (ports m v))) (λ u. eqb (g u) (least g (ports m v))) (ports m v) (λ u a. ap₂ eqb (same u (inside m (p .drawn) u v a .1)) least-same))
 
-module _ (m : Model) (proper : Proper m) (ds ps : List ℕ) (room : m .nodes ≤ length ds) (space : m .nodes ≤ length ps) where
-  abbrev registers : List ℕ
-  registers = take (m .nodes) ds ++ take (m .nodes) ps
-
-  -- both registers of v are written, by what the distances were
-  pub tree-turned :
-      (v d p : ℕ) (a b : Bool) (es qs : List ℕ) → v < m .nodes
-      → d ≡ new-distance m (λ u. getD ds u 0) v → p ≡ stored (new-parent m (λ u. getD ds u 0) v)
-      → es ≡ set ds v d → Changed ds a es → qs ≡ set ps v p → Changed ps b qs
-      → Turned m (tree m) v registers (Ok (a || b)) (take (m .nodes) es ++ take (m .nodes) qs)
-  tree-turned v d p a b es qs l x y j s k t =
-      let n = m .nodes in
-      let same = first-read n ds ps room space in
-      let f : ℕ → ℕ = λ u. getD registers u 0 in
-      let g : ℕ → ℕ = λ u. getD ds u 0 in
-      let roomy : n ≤ length es = let e = ap length j ∙ length-set ds v d in omega arith in
-      let roomier : n ≤ length (set ds v d) = let e = length-set ds v d in omega arith in
-      let c = either-changed n (take n ds) (take n ps) (take n es) (take n qs) a b (front-length n ds room) (front-length n es roomy) (front-changed n ds room v d a es l j s) (front-changed n ps space v p b qs l k t) in (
-        l,
-        ap₂ (λ (zs ws : List ℕ). take n zs ++ take n ws) j k
-            ∙ second-set n (set ds v d) ps roomier space (n + v) v p refl
-            ∙ ap (λ (zs : List ℕ). set zs (n + v) p) (first-set n ds ps room space v d l)
-            ∙ ap₂ (λ (z w : ℕ). set (set registers v z) (n + v) w) (x ∙ sym (distance-same m proper f g same v)) (y ∙ ap stored (sym (parent-same m proper f g same v))),
-        c .0,
-        c .1,
-      )
+-- both registers of v are written, by what the distances were
+pub tree-turned :
+    (m : Model) (p : Proper m) (a b c d : Block) (v x y : ℕ) (r s : Bool) → v < m .nodes
+    → x ≡ new-distance m (λ u. getD (held a) u 0) v → y ≡ stored (new-parent m (λ u. getD (held a) u 0) v)
+    → held c ≡ set (held a) v x → Changed (held a) r (held c) → held d ≡ set (held b) v y → Changed (held b) s (held d)
+    → Turned m (tree m) v (front a m ++ front b m) (Ok (r || s)) (front c m ++ front d m)
+tree-turned m p a b c d v x y r s l e h w j u k =
+    let n = m .nodes in
+    let registers : List ℕ = front a m ++ front b m in
+    let f : ℕ → ℕ = λ i. getD registers i 0 in
+    let g : ℕ → ℕ = λ i. getD (held a) i 0 in
+    let same = first-read m p a b in
+    let changed = both-changed m p a b c d v x y r s l w j u k in (
+      l,
+      second-set m p c b d (n + v) v y u refl
+      ∙ ap (λ (zs : List ℕ). set zs (n + v) y) (first-set m p a b c v x w l)
+      ∙ ap₂ (λ (z q : ℕ). set (set registers v z) (n + v) q) (e ∙ sym (distance-same m p f g same v)) (h ∙ ap stored (sym (parent-same m p f g same v))),
+      changed .0,
+      changed .1,
+    )

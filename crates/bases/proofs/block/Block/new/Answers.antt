@@ -2,7 +2,7 @@ use mathlib.Core.Path.{sym, subst, ap, _∙_}
 use native.Mathlib.Omega.{arith}
 use lib.ListN.{length}
 use Rattle.bases.specs.Width.{Narrow}
-use Rattle.bases.proofs.Fronts.{narrow-replicate}
+use Rattle.bases.proofs.Widths.{narrow-replicate}
 use Rattle.bases.proofs.block.Block.new.Needs as need
 
 pub ghost-result : need.ghost-result

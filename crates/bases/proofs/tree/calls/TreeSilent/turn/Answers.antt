@@ -3,8 +3,6 @@ use Prim.Native.Nat.{_<_}
 use native.Mathlib.Omega.{arith}
 use Rattle.site.specs.Sites.{model}
 use Rattle.site.proofs.Whole.{proper}
-use Rattle.bases.specs.Blocks.{held}
-use Rattle.bases.proofs.Sizes.{room}
 use Rattle.bases.proofs.TreeCalls.{tree-turned}
 use Rattle.bases.proofs.tree.calls.TreeSilent.turn.Needs as need
 
@@ -12,16 +10,15 @@ pub returns : need.returns
 returns c =
     let s = c .args .site .now in
     let t = c .args .self .now in
-    let m = model s in
     let e = c .nodes .ensures in
-    let l : c .args .v < m .nodes = let q = c .if-v-nodes .left in omega arith in
-    let a = c .put-nearer .ensures in
-    let b = c .put-other .ensures in
+    let l : c .args .v < model s .nodes = let q = c .if-v-nodes .left in omega arith in
+    let x = c .new-distance-distance in
+    let y = c .new-parent-parent in
+    let a = c .put-nearer in
+    let b = c .put-other in
     record {
       plan = refl;
       turned =
-          tree-turned m (proper s) (held (t .distances)) (held (t .parents)) (room m (proper s) (t .distances)) (room m (proper s) (t .parents))
-          (c .args .v) (c .new-distance-distance .result) (c .new-parent-parent .result) (c .put-nearer .result) (c .put-other .result)
-          (held (c .put-nearer .last .self)) (held (c .put-other .last .self)) l
-          (c .new-distance-distance .ensures) (c .new-parent-parent .ensures) (a .after) (a .changed) (b .after) (b .changed);
+          tree-turned (model s) (proper s) (t .distances) (t .parents) (a .last .self) (b .last .self) (c .args .v) (x .result) (y .result) (a .result) (b .result) l
+          (x .ensures) (y .ensures) (a .ensures .after) (a .ensures .changed) (b .ensures .after) (b .ensures .changed);
     }
