@@ -44,6 +44,6 @@ module _ (m : Model) (p : Proper m) (b : Block) where
         let n = m .nodes in
         let fits = room m p b in
         let back : front a m ≡ front b m → held a ≡ held b = λ e.
-            let same : x ≡ getD (held b) v 0 = sym (ap (λ (zs : List ℕ). getD zs v 0) w ∙ getD-set-same (held b) v x 0 (omega arith)) ∙ sym (getD-take n (held a) v 0 l) ∙ ap (λ (zs : List ℕ). getD zs v 0) e ∙ getD-take n (held b) v 0 l in
-            w ∙ ap (set (held b) v) same ∙ set-getD (held b) v 0 in
+        let same : x ≡ getD (held b) v 0 = sym (ap (λ (zs : List ℕ). getD zs v 0) w ∙ getD-set-same (held b) v x 0 (omega arith)) ∙ sym (getD-take n (held a) v 0 l) ∙ ap (λ (zs : List ℕ). getD zs v 0) e ∙ getD-take n (held b) v 0 l in
+        w ∙ ap (set (held b) v) same ∙ set-getD (held b) v 0 in
         (λ t e. h .0 t (back e), λ f. ap (take n) (h .1 f))

@@ -48,8 +48,8 @@ tree-turned m p a b c d v x y r s l e h w j u k =
     let changed = both-changed m p a b c d v x y r s l w j u k in (
       l,
       second-set m p c b d (n + v) v y u refl
-      ∙ ap (λ (zs : List ℕ). set zs (n + v) y) (first-set m p a b c v x w l)
-      ∙ ap₂ (λ (z q : ℕ). set (set registers v z) (n + v) q) (e ∙ sym (distance-same m p f g same v)) (h ∙ ap stored (sym (parent-same m p f g same v))),
+          ∙ ap (λ (zs : List ℕ). set zs (n + v) y) (first-set m p a b c v x w l)
+          ∙ ap₂ (λ (z q : ℕ). set (set registers v z) (n + v) q) (e ∙ sym (distance-same m p f g same v)) (h ∙ ap stored (sym (parent-same m p f g same v))),
       changed .0,
       changed .1,
     )

@@ -37,7 +37,8 @@ impl Matching {
     fn names_node(&self, u: u16, v: usize) -> bool
         ensures { λ r. ⌜ r ≡ eqb (getD (held (now (self .entry) .names)) u 0) (suc v) ⌝ }
     {
-        self.names.at(u as usize) as usize == v + 1
+        let name = self.names.at(u as usize) as usize;
+        name != 0 && name - 1 == v
     }
 
     // M1 and M2: what a node names that names none
@@ -54,7 +55,6 @@ impl Matching {
 
     // neither M0 nor M3: whether a node goes on naming u
     fn stands(&self, site: &Site, v: usize, u: u16) -> bool
-        requires { ⌜ v < model (now site) .nodes ⌝ }
         ensures { λ r. ⌜ cond r (suc u) 0 ≡ by-rules (model (now (site .entry))) (λ w. getD (held (now (self .entry) .names)) w 0) v (suc u) ⌝ }
     {
         if !has(site.ports(v), u) {
@@ -72,22 +72,19 @@ impl Matching {
         if name == 0 {
             return self.chosen(site, v);
         }
-        if self.stands(site, v, name - 1) { name } else { 0 }
+        if self.stands(site, v, name - 1) {
+            name
+        } else {
+            0
+        }
     }
 
     // the neighbour that a node names and that names it
     fn mate(&self, site: &Site, v: usize) -> Option<u16>
-        requires { ⌜ v < model (now site) .nodes ⌝ }
         ensures { λ r. ⌜ r ≡ mate-of (model (now (site .entry))) (λ u. getD (held (now (self .entry) .names)) u 0) v ⌝ }
     {
         match held_node(site.ports(v), self.names.at(v)) {
-            Some(u) => {
-                if self.names_node(u, v) {
-                    Some(u)
-                } else {
-                    None
-                }
-            }
+            Some(u) => { if self.names_node(u, v) { Some(u) } else { None } }
             None => None,
         }
     }
