@@ -1,13 +1,30 @@
--- The least value over a list of nodes, one node after the other, and where two functions have the same.
+-- Loops over a list of nodes: the first node that passes a test, and the least value.
 use mathlib.Core.Path.{_≡_, refl, sym, ap, subst, _∙_}
 use mathlib.Core.List.{List, [], _∷_, _++_}
 use mathlib.Core.Logic.{inl, inr}
+use mathlib.Core.Bool.{Bool, true, false, cond}
 use Prim.Native.Nat.{ℕ, zero, suc, _+_, _<_, _≤_, min}
 use native.Mathlib.Omega.{arith}
-use lib.ListN.{length, getD, take}
-use Rattle.std.proofs.shelf.Lists.{take-more}
+use lib.ListN.{length, getD, take, drop}
+use Rattle.std.proofs.shelf.Lists.{at-drop-all, at-drop-more, take-more}
+use Rattle.std.proofs.shelf.Tests.{cond-true, cond-false}
 use Rattle.lists.specs.Members.{Among}
 use Rattle.protocol.specs.First.{least}
+
+-- F asks the first node of a list, and then the others; before the node at i nothing was found
+module _ {X : Type 0} (F : List ℕ → X) (p : ℕ → Bool) (found : ℕ → X) (asks : (x : ℕ) (xs : List ℕ) → F (x ∷ xs) ≡ cond (p x) (found x) (F xs))
+    (ns : List ℕ) (i : ℕ) (inv : F (drop i ns) ≡ F ns) where
+  here : i < length ns → cond (p (getD ns i 0)) (found (getD ns i 0)) (F (drop (i + 1) ns)) ≡ F ns
+  here l = sym (asks (getD ns i 0) (drop (i + 1) ns)) ∙ sym (at-drop-more F ns i 0 l) ∙ inv
+
+  pub scan-found : i < length ns → p (getD ns i 0) ≡ true → found (getD ns i 0) ≡ F ns
+  scan-found l t = sym (cond-true (p (getD ns i 0)) (found (getD ns i 0)) (F (drop (i + 1) ns)) t) ∙ here l
+
+  pub scan-more : i < length ns → p (getD ns i 0) ≡ false → F (drop (i + 1) ns) ≡ F ns
+  scan-more l t = sym (cond-false (p (getD ns i 0)) (found (getD ns i 0)) (F (drop (i + 1) ns)) t) ∙ here l
+
+  pub scan-all : length ns ≤ i → F [] ≡ F ns
+  scan-all l = sym (at-drop-all F ns i l) ∙ inv
 
 least-push : (f : ℕ → ℕ) (x : ℕ) (xs : List ℕ) (y : ℕ) → least f ((x ∷ xs) ++ (y ∷ [])) ≡ min (least f (x ∷ xs)) (f y)
 least-push f x [] y = refl

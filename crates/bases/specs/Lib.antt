@@ -1,3 +1,3 @@
 pub mod Width
 pub mod Blocks
-pub mod Placed
+pub mod Registers

@@ -11,7 +11,7 @@ ghost use Rattle.graph.specs.Model.{Model, Proper};
 ghost use Rattle.site.specs.Sites.{model};
 ghost use Rattle.protocol.specs.Matching.{mate as mate-of, matching, new-register, renewed as by-rules};
 ghost use Rattle.bases.specs.Blocks.{held};
-ghost use Rattle.bases.specs.Placed.{matching-registers};
+ghost use Rattle.bases.specs.Registers.{matching-registers};
 use super::Matching;
 use crate::block::Block;
 use crate::ports::has;

@@ -7,7 +7,7 @@ ghost use Rattle.site.specs.Sites.{model};
 ghost use Rattle.protocol.specs.Outputs.{stored};
 ghost use Rattle.protocol.specs.Tree.{new-distance, new-parent, tree};
 ghost use Rattle.bases.specs.Blocks.{held};
-ghost use Rattle.bases.specs.Placed.{tree-registers};
+ghost use Rattle.bases.specs.Registers.{tree-registers};
 use super::Tree;
 use crate::block::Block;
 use crate::ports::held_node;
@@ -68,9 +68,9 @@ pub impl Silent for Tree as TreeSilent {
         }
         let distance = self.new_distance(site, v);
         let parent = self.new_parent(site, v);
-        let nearer = self.distances.put(v, distance);
-        let other = self.parents.put(v, parent);
-        Ok(nearer | other)
+        let moved = self.distances.put(v, distance);
+        let adopted = self.parents.put(v, parent);
+        Ok(moved | adopted)
     }
 
     fn write(&mut self, site: &Site, place: u64, value: u16) -> Result<(), Refusal> {

@@ -1,30 +1,30 @@
-use mathlib.Core.Path.{_≡_, sym, _∙_}
-use mathlib.Core.Bool.{Bool, cond}
-use Prim.Native.Nat.{ℕ, _+_}
+use mathlib.Core.Path.{refl, sym, _∙_}
+use mathlib.Core.Bool.{Bool}
+use Prim.Native.Nat.{ℕ}
 use lib.Dec.{eqb}
-use lib.ListN.{getD, drop}
-use Rattle.std.proofs.shelf.Lists.{at-drop-more, at-drop-all}
-use Rattle.std.proofs.shelf.Tests.{cond-true, cond-false, eq-eqb, ne-eqb}
+use lib.ListN.{getD}
 use Rattle.std.specs.declared.option.Option.the-variants.{Some}
+use Rattle.std.proofs.shelf.Tests.{eq-eqb, ne-eqb}
 use Rattle.protocol.specs.First.{first}
+use Rattle.bases.specs.declared.block.Block.{Block}
 use Rattle.bases.specs.Blocks.{held}
+use Rattle.bases.proofs.Scans.{scan-found, scan-more, scan-all}
 use Rattle.bases.proofs.ports.first_with.Needs as need
+
+abbrev has-value : Block → ℕ → ℕ → Bool
+has-value b x u = eqb (getD (held b) u 0) x
 
 pub returns-then-at-value : need.returns-then-at-value
 returns-then-at-value c =
-    let ns = c .args .nodes .now in
-    let i = c .loop-u .u-index in
-    let p : ℕ → Bool = λ u. eqb (getD (held (c .args .block .now)) u 0) (c .args .value) in
-    let e : first p (drop i ns) ≡ cond (p (getD ns i 0)) (Some (getD ns i 0)) (first p (drop (i + 1) ns)) = at-drop-more (first p) ns i 0 (c .loop-u-test .taken) in
-    sym (cond-true (p (getD ns i 0)) (Some (getD ns i 0)) (first p (drop (i + 1) ns)) (eq-eqb _ _ (sym (c .at .ensures) ∙ c .if-at-value .taken))) ∙ sym e ∙ c .loop-u .inv
+    let p : ℕ → Bool = has-value (c .args .block .now) (c .args .value) in
+    scan-found (first p) p Some (λ x xs. refl) (c .args .nodes .now) (c .loop-u .u-index) (c .loop-u .inv) (c .loop-u-test .taken) (eq-eqb _ _ (sym (c .at .ensures) ∙ c .if-at-value .taken))
 
 pub loop-u-again : need.loop-u-again
 loop-u-again c =
-    let ns = c .args .nodes .now in
-    let i = c .loop-u .u-index in
-    let p : ℕ → Bool = λ u. eqb (getD (held (c .args .block .now)) u 0) (c .args .value) in
-    let e : first p (drop i ns) ≡ cond (p (getD ns i 0)) (Some (getD ns i 0)) (first p (drop (i + 1) ns)) = at-drop-more (first p) ns i 0 (c .loop-u-test .taken) in
-    sym (cond-false (p (getD ns i 0)) (Some (getD ns i 0)) (first p (drop (i + 1) ns)) (ne-eqb _ _ (λ k. c .if-at-value .left (c .at .ensures ∙ k)))) ∙ sym e ∙ c .loop-u .inv
+    let p : ℕ → Bool = has-value (c .args .block .now) (c .args .value) in
+    scan-more (first p) p Some (λ x xs. refl) (c .args .nodes .now) (c .loop-u .u-index) (c .loop-u .inv) (c .loop-u-test .taken) (ne-eqb _ _ (λ e. c .if-at-value .left (c .at .ensures ∙ e)))
 
 pub returns : need.returns
-returns c = sym (at-drop-all (first (λ u. eqb (getD (held (c .args .block .now)) u 0) (c .args .value))) (c .args .nodes .now) (c .loop-u .u-index) (c .loop-u-test .left)) ∙ c .loop-u .inv
+returns c =
+    let p : ℕ → Bool = has-value (c .args .block .now) (c .args .value) in
+    scan-all (first p) p Some (λ x xs. refl) (c .args .nodes .now) (c .loop-u .u-index) (c .loop-u .inv) (c .loop-u-test .left)

@@ -14,8 +14,8 @@ returns c =
     let l : c .args .v < model s .nodes = let q = c .if-v-nodes .left in omega arith in
     let x = c .new-distance-distance in
     let y = c .new-parent-parent in
-    let a = c .put-nearer in
-    let b = c .put-other in
+    let a = c .put-moved in
+    let b = c .put-adopted in
     record {
       plan = refl;
       turned =
