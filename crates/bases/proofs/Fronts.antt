@@ -10,7 +10,7 @@ use Rattle.std.proofs.shelf.Elements.{all-take}
 use Rattle.graph.specs.Model.{Model, Proper}
 use Rattle.protocol.specs.Protocols.{Registers}
 use Rattle.bases.specs.declared.block.Block.{Block}
-use Rattle.bases.specs.Blocks.{held, front, Changed}
+use Rattle.bases.specs.Blocks.{held, register, front, Changed}
 use Rattle.bases.proofs.Widths.{narrow-all}
 use Rattle.bases.proofs.Sizes.{room}
 
@@ -30,7 +30,7 @@ module _ (m : Model) (p : Proper m) (b : Block) where
   pub front-zero : held b ≡ replicate 256 0 → front b m ≡ replicate (m .nodes) 0
   front-zero e = ap (take (m .nodes)) e ∙ take-replicate (m .nodes) 256 0 (p .drawn .limit)
 
-  pub front-read : (v : ℕ) → v < m .nodes → getD (front b m) v 0 ≡ getD (held b) v 0
+  pub front-read : (v : ℕ) → v < m .nodes → getD (front b m) v 0 ≡ register b v
   front-read v l = getD-take (m .nodes) (held b) v 0 l
 
   -- a write within the front

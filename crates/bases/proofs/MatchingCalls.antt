@@ -18,7 +18,7 @@ use Rattle.protocol.specs.Matching.{mate, matching, naming, new-register, or-el
 use Rattle.protocol.proofs.FirstLaws.{first-cong, held-some, mem-tells}
 use Rattle.silent.specs.Answers.{Turned}
 use Rattle.bases.specs.declared.block.Block.{Block}
-use Rattle.bases.specs.Blocks.{held, front, Changed}
+use Rattle.bases.specs.Blocks.{held, register, front, Changed}
 use Rattle.bases.proofs.Fronts.{front-read, front-set, front-changed}
 
 -- the rules read the names of nodes alone
@@ -50,10 +50,10 @@ module _ (m : Model) (p : Proper m) (f g : ℕ → ℕ) (same : (u : ℕ) → u 
 
 -- the register of v is written, by what the names were
 pub matching-turned :
-    (m : Model) (p : Proper m) (a b : Block) (v x : ℕ) (r : Bool) → v < m .nodes → x ≡ new-register m (λ u. getD (held a) u 0) v
+    (m : Model) (p : Proper m) (a b : Block) (v x : ℕ) (r : Bool) → v < m .nodes → x ≡ new-register m (register a) v
     → held b ≡ set (held a) v x → Changed (held a) r (held b) → Turned m (matching m) v (front a m) (Ok r) (front b m)
 matching-turned m p a b v x r l e w h =
     let f : ℕ → ℕ = λ u. getD (front a m) u 0 in
-    let g : ℕ → ℕ = λ u. getD (held a) u 0 in
+    let g : ℕ → ℕ = register a in
     let changed = front-changed m p a b v x w r l h in
     (l, front-set m p a b v x w ∙ ap (set (front a m) v) (e ∙ sym (register-same m p f g (front-read m p a) v l)), changed .0, changed .1)

@@ -10,13 +10,13 @@ use Rattle.std.specs.declared.option.Option.the-variants.{None}
 use Rattle.std.specs.declared.result.Result.the-variants.{Ok}
 use Rattle.graph.specs.Model.{Model, Proper, ports}
 use Rattle.graph.proofs.Drawn.{inside}
-use Rattle.protocol.specs.First.{least, first}
+use Rattle.protocol.specs.First.{least}
 use Rattle.protocol.specs.Outputs.{stored}
 use Rattle.protocol.specs.Tree.{new-distance, new-parent, tree}
 use Rattle.protocol.proofs.FirstLaws.{first-cong}
 use Rattle.silent.specs.Answers.{Turned}
 use Rattle.bases.specs.declared.block.Block.{Block}
-use Rattle.bases.specs.Blocks.{held, front, Changed}
+use Rattle.bases.specs.Blocks.{held, register, front, Changed}
 use Rattle.bases.proofs.Scans.{least-cong}
 use Rattle.bases.proofs.TwoFronts.{first-read, first-set, second-set, both-changed}
 
@@ -36,14 +36,14 @@ module _ (m : Model) (p : Proper m) (f g : ℕ → ℕ) (same : (u : ℕ) → u 
 -- both registers of v are written, by what the distances were
 pub tree-turned :
     (m : Model) (p : Proper m) (a b c d : Block) (v x y : ℕ) (r s : Bool) → v < m .nodes
-    → x ≡ new-distance m (λ u. getD (held a) u 0) v → y ≡ stored (new-parent m (λ u. getD (held a) u 0) v)
+    → x ≡ new-distance m (register a) v → y ≡ stored (new-parent m (register a) v)
     → held c ≡ set (held a) v x → Changed (held a) r (held c) → held d ≡ set (held b) v y → Changed (held b) s (held d)
     → Turned m (tree m) v (front a m ++ front b m) (Ok (r || s)) (front c m ++ front d m)
 tree-turned m p a b c d v x y r s l e h w j u k =
     let n = m .nodes in
     let registers : List ℕ = front a m ++ front b m in
     let f : ℕ → ℕ = λ i. getD registers i 0 in
-    let g : ℕ → ℕ = λ i. getD (held a) i 0 in
+    let g : ℕ → ℕ = register a in
     let same = first-read m p a b in
     let changed = both-changed m p a b c d v x y r s l w j u k in (
       l,

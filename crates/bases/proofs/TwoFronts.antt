@@ -12,7 +12,7 @@ use Rattle.std.proofs.shelf.Tests.{or-cases, or-parts}
 use Rattle.graph.specs.Model.{Model, Proper}
 use Rattle.protocol.specs.Protocols.{Registers}
 use Rattle.bases.specs.declared.block.Block.{Block}
-use Rattle.bases.specs.Blocks.{held, front, Changed}
+use Rattle.bases.specs.Blocks.{held, register, front, Changed}
 use Rattle.bases.proofs.Fronts.{front-length, front-registers, front-read, front-set, front-changed}
 
 -- two lists of registers changed if one of them did
@@ -35,10 +35,10 @@ module _ (m : Model) (p : Proper m) (a b : Block) where
       let k = front-registers m p b in
       (length-append (front a m) (front b m) ∙ ap₂ _+_ (h .0) (k .0), all-append (λ x. x < 65536) (front a m) (front b m) (h .1) (k .1))
 
-  pub first-read : (i : ℕ) → i < m .nodes → getD both i 0 ≡ getD (held a) i 0
+  pub first-read : (i : ℕ) → i < m .nodes → getD both i 0 ≡ register a i
   first-read i l = let e = front-length m p a in getD-append-left (front a m) (front b m) 0 i (omega arith) ∙ front-read m p a i l
 
-  pub second-read : (i j : ℕ) → i ≡ m .nodes + j → j < m .nodes → getD both i 0 ≡ getD (held b) j 0
+  pub second-read : (i j : ℕ) → i ≡ m .nodes + j → j < m .nodes → getD both i 0 ≡ register b j
   second-read i j e l =
       getD-append-right (front a m) (front b m) (m .nodes) i 0 (front-length m p a) (omega arith)
       ∙ ap (λ (k : ℕ). getD (front b m) k 0) (omega arith)

@@ -1,12 +1,11 @@
 //! What nodes look for at their ports.
 ghost use mathlib.Core.Path.{_≡_};
 ghost use lib.Dec.{eqb};
-ghost use lib.ListN.{getD};
 ghost use Rattle.graph.specs.Model.{ports};
 ghost use Rattle.site.specs.Sites.{model};
-ghost use Rattle.protocol.specs.First.{first, held as node-held, least as least-of, mem};
+ghost use Rattle.protocol.specs.First.{first, held, least as least-of, mem};
 ghost use Rattle.protocol.specs.Outputs.{stored};
-ghost use Rattle.bases.specs.Blocks.{held};
+ghost use Rattle.bases.specs.Blocks.{register};
 use crate::block::Block;
 use site::site::Site;
 
@@ -22,20 +21,20 @@ pub fn has(nodes: &[u16], u: u16) -> bool
     false
 }
 
-/// The node of the list that a register holds, if any.
-pub fn held_node(nodes: &[u16], register: u16) -> Option<u16>
-    ensures { λ r. ⌜ r ≡ node-held (now (nodes .entry)) register ⌝ }
+/// The node of the list that a register of this value holds, if any.
+pub fn held_node(nodes: &[u16], value: u16) -> Option<u16>
+    ensures { λ r. ⌜ r ≡ held (now (nodes .entry)) value ⌝ }
 {
-    if register == 0 {
+    if value == 0 {
         return None;
     }
-    let u = register - 1;
+    let u = value - 1;
     if has(nodes, u) { Some(u) } else { None }
 }
 
 /// The least of the registers of the nodes; 0 if there are none.
 pub fn least(block: &Block, nodes: &[u16]) -> u16
-    ensures { λ r. ⌜ r ≡ least-of (λ u. getD (held (now (block .entry))) u 0) (now (nodes .entry)) ⌝ }
+    ensures { λ r. ⌜ r ≡ least-of (register (now (block .entry))) (now (nodes .entry)) ⌝ }
 {
     let mut best = 0;
     for (i, u) in nodes.iter().enumerate() {
@@ -49,7 +48,7 @@ pub fn least(block: &Block, nodes: &[u16]) -> u16
 
 /// The first of the nodes whose register has this value.
 pub fn first_with(block: &Block, nodes: &[u16], value: u16) -> Option<u16>
-    ensures { λ r. ⌜ r ≡ first (λ u. eqb (getD (held (now (block .entry))) u 0) value) (now (nodes .entry)) ⌝ }
+    ensures { λ r. ⌜ r ≡ first (λ u. eqb (register (now (block .entry)) u) value) (now (nodes .entry)) ⌝ }
 {
     for u in nodes {
         if block.at(*u as usize) == value {
@@ -61,7 +60,7 @@ pub fn first_with(block: &Block, nodes: &[u16], value: u16) -> Option<u16>
 
 /// The first neighbour of a node whose register has this value, as a register holds it: 0 for none, else its number plus 1.
 pub fn stored_first(site: &Site, block: &Block, v: usize, value: u16) -> u16
-    ensures { λ r. ⌜ r ≡ stored (first (λ u. eqb (getD (held (now (block .entry))) u 0) value) (ports (model (now (site .entry))) v)) ⌝ }
+    ensures { λ r. ⌜ r ≡ stored (first (λ u. eqb (register (now (block .entry)) u) value) (ports (model (now (site .entry))) v)) ⌝ }
 {
     match first_with(block, site.ports(v), value) {
         Some(u) => u + 1,

@@ -1,8 +1,8 @@
 //! What a block answers.
 ghost use mathlib.Core.Path.{_≡_};
-ghost use lib.ListN.{getD, replicate, set};
+ghost use lib.ListN.{replicate, set};
 ghost use Rattle.std.specs.Vec.{made};
-ghost use Rattle.bases.specs.Blocks.{Changed, held};
+ghost use Rattle.bases.specs.Blocks.{Changed, held, register};
 use super::Block;
 use std::alloc::AllocError;
 use std::alloc::Global;
@@ -18,7 +18,7 @@ impl Block {
 
     /// The register of a node; 0 past the last.
     pub fn at(&self, v: usize) -> u16
-        ensures { λ r. ⌜ r ≡ getD (held (now (self .entry))) v 0 ⌝ }
+        ensures { λ r. ⌜ r ≡ register (now (self .entry)) v ⌝ }
     {
         if v < self.values.len() {
             self.values[v]

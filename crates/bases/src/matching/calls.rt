@@ -5,12 +5,12 @@ ghost use mathlib.Core.Path.{_≡_};
 ghost use mathlib.Core.Bool.{cond};
 ghost use Prim.Native.Nat.{_<_, suc};
 ghost use lib.Dec.{eqb};
-ghost use lib.ListN.{getD, replicate};
+ghost use lib.ListN.{replicate};
 ghost use Rattle.std.specs.Vec.{made};
 ghost use Rattle.graph.specs.Model.{Model, Proper};
 ghost use Rattle.site.specs.Sites.{model};
 ghost use Rattle.protocol.specs.Matching.{mate as mate-of, matching, new-register, renewed as by-rules};
-ghost use Rattle.bases.specs.Blocks.{held};
+ghost use Rattle.bases.specs.Blocks.{register};
 ghost use Rattle.bases.specs.Registers.{matching-registers};
 use super::Matching;
 use crate::block::Block;
@@ -35,7 +35,7 @@ impl Matching {
 
     // whether a node names v
     fn names_node(&self, u: u16, v: usize) -> bool
-        ensures { λ r. ⌜ r ≡ eqb (getD (held (now (self .entry) .names)) u 0) (suc v) ⌝ }
+        ensures { λ r. ⌜ r ≡ eqb (register (now (self .entry) .names) u) (suc v) ⌝ }
     {
         let name = self.names.at(u as usize) as usize;
         name != 0 && name - 1 == v
@@ -44,7 +44,7 @@ impl Matching {
     // M1 and M2: what a node names that names none
     fn chosen(&self, site: &Site, v: usize) -> u16
         requires { ⌜ v < model (now site) .nodes ⌝ }
-        ensures { λ r. ⌜ r ≡ by-rules (model (now (site .entry))) (λ u. getD (held (now (self .entry) .names)) u 0) v 0 ⌝ }
+        ensures { λ r. ⌜ r ≡ by-rules (model (now (site .entry))) (register (now (self .entry) .names)) v 0 ⌝ }
     {
         let suitor = stored_first(site, &self.names, v, v as u16 + 1);
         if suitor != 0 {
@@ -55,7 +55,7 @@ impl Matching {
 
     // neither M0 nor M3: whether a node goes on naming u
     fn stands(&self, site: &Site, v: usize, u: u16) -> bool
-        ensures { λ r. ⌜ cond r (suc u) 0 ≡ by-rules (model (now (site .entry))) (λ w. getD (held (now (self .entry) .names)) w 0) v (suc u) ⌝ }
+        ensures { λ r. ⌜ cond r (suc u) 0 ≡ by-rules (model (now (site .entry))) (register (now (self .entry) .names)) v (suc u) ⌝ }
     {
         if !has(site.ports(v), u) {
             return false;
@@ -66,7 +66,7 @@ impl Matching {
     // the new register of a node, by the first rule that fits
     fn renewed(&self, site: &Site, v: usize) -> u16
         requires { ⌜ v < model (now site) .nodes ⌝ }
-        ensures { λ r. ⌜ r ≡ new-register (model (now (site .entry))) (λ u. getD (held (now (self .entry) .names)) u 0) v ⌝ }
+        ensures { λ r. ⌜ r ≡ new-register (model (now (site .entry))) (register (now (self .entry) .names)) v ⌝ }
     {
         let name = self.names.at(v);
         if name == 0 {
@@ -81,11 +81,11 @@ impl Matching {
 
     // the neighbour that a node names and that names it
     fn mate(&self, site: &Site, v: usize) -> Option<u16>
-        ensures { λ r. ⌜ r ≡ mate-of (model (now (site .entry))) (λ u. getD (held (now (self .entry) .names)) u 0) v ⌝ }
+        ensures { λ r. ⌜ r ≡ mate-of (model (now (site .entry))) (register (now (self .entry) .names)) v ⌝ }
     {
         match held_node(site.ports(v), self.names.at(v)) {
-            Some(u) => { if self.names_node(u, v) { Some(u) } else { None } }
-            None => None,
+            Some(u) if self.names_node(u, v) => Some(u),
+            _ => None,
         }
     }
 }

@@ -1,12 +1,12 @@
 //! The calls of the tree.
 ghost use mathlib.Core.Path.{_≡_};
-ghost use lib.ListN.{getD, replicate};
+ghost use lib.ListN.{replicate};
 ghost use Rattle.std.specs.Vec.{made};
 ghost use Rattle.graph.specs.Model.{Model, Proper};
 ghost use Rattle.site.specs.Sites.{model};
 ghost use Rattle.protocol.specs.Outputs.{stored};
 ghost use Rattle.protocol.specs.Tree.{new-distance, new-parent, tree};
-ghost use Rattle.bases.specs.Blocks.{held};
+ghost use Rattle.bases.specs.Blocks.{register};
 ghost use Rattle.bases.specs.Registers.{tree-registers};
 use super::Tree;
 use crate::block::Block;
@@ -32,7 +32,7 @@ impl Tree {
 
     // one more than the least distance of a neighbour, but never n or more; the root has 0
     fn new_distance(&self, site: &Site, v: usize) -> u16
-        ensures { λ r. ⌜ r ≡ new-distance (model (now (site .entry))) (λ u. getD (held (now (self .entry) .distances)) u 0) v ⌝ }
+        ensures { λ r. ⌜ r ≡ new-distance (model (now (site .entry))) (register (now (self .entry) .distances)) v ⌝ }
     {
         if v == site.root() {
             return 0;
@@ -43,7 +43,7 @@ impl Tree {
 
     // the first neighbour that has that least; the root has none
     fn new_parent(&self, site: &Site, v: usize) -> u16
-        ensures { λ r. ⌜ r ≡ stored (new-parent (model (now (site .entry))) (λ u. getD (held (now (self .entry) .distances)) u 0) v) ⌝ }
+        ensures { λ r. ⌜ r ≡ stored (new-parent (model (now (site .entry))) (register (now (self .entry) .distances)) v) ⌝ }
     {
         if v == site.root() {
             return 0;

@@ -2,17 +2,16 @@ use mathlib.Core.Path.{refl, sym, _∙_}
 use mathlib.Core.Bool.{Bool}
 use Prim.Native.Nat.{ℕ}
 use lib.Dec.{eqb}
-use lib.ListN.{getD}
 use Rattle.std.specs.declared.option.Option.the-variants.{Some}
 use Rattle.std.proofs.shelf.Tests.{eq-eqb, ne-eqb}
 use Rattle.protocol.specs.First.{first}
 use Rattle.bases.specs.declared.block.Block.{Block}
-use Rattle.bases.specs.Blocks.{held}
+use Rattle.bases.specs.Blocks.{register}
 use Rattle.bases.proofs.Scans.{scan-found, scan-more, scan-all}
 use Rattle.bases.proofs.ports.first_with.Needs as need
 
 abbrev has-value : Block → ℕ → ℕ → Bool
-has-value b x u = eqb (getD (held b) u 0) x
+has-value b x u = eqb (register b u) x
 
 pub returns-then-at-value : need.returns-then-at-value
 returns-then-at-value c =

@@ -1,7 +1,6 @@
 use mathlib.Core.Path.{refl}
 use mathlib.Core.Bool.{true}
 use lib.Dec.{eqb}
-use lib.ListN.{getD}
 use Rattle.std.proofs.shelf.Tests.{eq-eqb, ne-eqb}
 use Rattle.protocol.specs.First.{mem}
 use Rattle.bases.proofs.Scans.{scan-found, scan-more, scan-all}

@@ -1,16 +1,15 @@
-use mathlib.Core.Path.{_≡_, sym, ap, _∙_}
+use mathlib.Core.Path.{ap, _∙_}
 use Prim.Native.Nat.{ℕ}
-use lib.ListN.{getD}
 use Rattle.std.proofs.shelf.Lists.{take-all}
 use Rattle.protocol.specs.First.{least}
-use Rattle.bases.specs.Blocks.{held}
+use Rattle.bases.specs.Blocks.{register}
 use Rattle.bases.proofs.Scans.{least-first, least-lower, least-stays}
 use Rattle.bases.proofs.ports.least.Needs as need
 use Rattle.bases.proofs.ports.least.Needs.{then-i-eq0, then-i-eq0·by·then-i-eq0, then-i-eq0·by·else-i-eq0·then-x-best, else-i-eq0·else-x-best}
 
 pub loop-i-again : need.loop-i-again
 loop-i-again c =
-    let f : ℕ → ℕ = λ u. getD (held (c .args .block .now)) u 0 in
+    let f : ℕ → ℕ = register (c .args .block .now) in
     let ns = c .args .nodes .now in
     let i = c .loop-i .i in
     let a = c .loop-i .best in
@@ -25,4 +24,4 @@ loop-i-again c =
     ]
 
 pub returns : need.returns
-returns c = c .loop-i .inv ∙ ap (least (λ u. getD (held (c .args .block .now)) u 0)) (take-all (c .loop-i .i) (c .args .nodes .now) (c .loop-i-test .left))
+returns c = c .loop-i .inv ∙ ap (least (register (c .args .block .now))) (take-all (c .loop-i .i) (c .args .nodes .now) (c .loop-i-test .left))

@@ -5,7 +5,7 @@ use lib.ListN.{getD}
 use Rattle.site.specs.Sites.{model}
 use Rattle.site.proofs.Whole.{proper}
 use Rattle.protocol.specs.Outputs.{plain, with-mate}
-use Rattle.bases.specs.Blocks.{held, front}
+use Rattle.bases.specs.Blocks.{register, front}
 use Rattle.bases.proofs.Fronts.{front-read}
 use Rattle.bases.proofs.MatchingCalls.{mate-same}
 use Rattle.bases.proofs.matching.calls.MatchingSilent.output.Needs as need
@@ -16,4 +16,4 @@ returns c =
     let b = c .args .self .now .names in
     let e = c .nodes .ensures in
     let l : c .args .v < model s .nodes = let q = c .if-v-nodes .left in omega arith in
-    (l, ap (with-mate plain) (c .mate .ensures ∙ sym (mate-same (model s) (proper s) (λ u. getD (front b (model s)) u 0) (λ u. getD (held b) u 0) (front-read (model s) (proper s) b) (c .args .v) l)))
+    (l, ap (with-mate plain) (c .mate .ensures ∙ sym (mate-same (model s) (proper s) (λ u. getD (front b (model s)) u 0) (register b) (front-read (model s) (proper s) b) (c .args .v) l)))

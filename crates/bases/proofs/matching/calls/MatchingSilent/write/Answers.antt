@@ -1,5 +1,4 @@
 use mathlib.Core.Path.{refl}
-use Prim.Native.Nat.{_<_}
 use native.Mathlib.Omega.{arith}
 use Rattle.site.specs.Sites.{model}
 use Rattle.site.proofs.Whole.{proper}
