@@ -1,24 +1,19 @@
 -- The registers of a block at a site: how many and how wide they are, what is read and written there, and whether that changed them.
 use mathlib.Core.Path.{_≡_, refl, sym, ap, _∙_}
 use mathlib.Core.Bool.{Bool}
-use mathlib.Core.List.{List, [], _∷_}
-use Prim.Native.Nat.{ℕ, zero, suc, _<_}
+use mathlib.Core.List.{List}
+use Prim.Native.Nat.{ℕ, _<_}
 use native.Mathlib.Omega.{arith}
 use lib.ListN.{length, getD, replicate, set, take}
-use Rattle.std.proofs.shelf.Lists.{getD-take, getD-set-same, length-take-le, set-getD, take-replicate}
+use Rattle.std.proofs.shelf.Lists.{getD-take, getD-set-same, length-take-le, take-replicate}
 use Rattle.std.proofs.shelf.Elements.{all-take}
 use Rattle.graph.specs.Model.{Model, Proper}
 use Rattle.protocol.specs.Protocols.{Registers}
 use Rattle.bases.specs.declared.block.Block.{Block}
 use Rattle.bases.specs.Blocks.{held, register, front, Changed}
 use Rattle.bases.proofs.Widths.{narrow-all}
+use Rattle.bases.proofs.Writes.{take-set-in, write-same}
 use Rattle.bases.proofs.Sizes.{room}
-
-take-set-in : (n : ℕ) (xs : List ℕ) (i x : ℕ) → take n (set xs i x) ≡ set (take n xs) i x
-take-set-in zero xs i x = refl
-take-set-in (suc n) [] i x = refl
-take-set-in (suc n) (y ∷ xs) zero x = refl
-take-set-in (suc n) (y ∷ xs) (suc i) x = ap (λ (zs : List ℕ). y ∷ zs) (take-set-in n xs i x)
 
 module _ (m : Model) (p : Proper m) (b : Block) where
   pub front-length : length (front b m) ≡ m .nodes
@@ -38,12 +33,12 @@ module _ (m : Model) (p : Proper m) (b : Block) where
     pub front-set : front a m ≡ set (front b m) v x
     front-set = ap (take (m .nodes)) w ∙ take-set-in (m .nodes) (held b) v x
 
+    back : v < m .nodes → front a m ≡ front b m → held a ≡ held b
+    back l e =
+        let fits = room m p b in
+        w ∙ write-same (held b) v x (register b v) 0 refl
+        (sym (front-read v l) ∙ ap (λ (zs : List ℕ). getD zs v 0) (sym e) ∙ getD-take (m .nodes) (held a) v 0 l ∙ ap (λ (zs : List ℕ). getD zs v 0) w ∙ getD-set-same (held b) v x 0 (omega arith))
+
     -- it changed the front if it changed the block
     pub front-changed : (r : Bool) → v < m .nodes → Changed (held b) r (held a) → Changed (front b m) r (front a m)
-    front-changed r l h =
-        let n = m .nodes in
-        let fits = room m p b in
-        let back : front a m ≡ front b m → held a ≡ held b = λ e.
-        let same : x ≡ getD (held b) v 0 = sym (ap (λ (zs : List ℕ). getD zs v 0) w ∙ getD-set-same (held b) v x 0 (omega arith)) ∙ sym (getD-take n (held a) v 0 l) ∙ ap (λ (zs : List ℕ). getD zs v 0) e ∙ getD-take n (held b) v 0 l in
-        w ∙ ap (set (held b) v) same ∙ set-getD (held b) v 0 in
-        (λ t e. h .0 t (back e), λ f. ap (take n) (h .1 f))
+    front-changed r l h = (λ t e. h .0 t (back l e), λ f. ap (take (m .nodes)) (h .1 f))

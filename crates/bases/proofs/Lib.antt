@@ -1,4 +1,5 @@
 pub mod Widths
+pub mod Writes
 pub mod Scans
 pub mod Sizes
 pub mod Fronts

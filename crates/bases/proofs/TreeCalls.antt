@@ -8,9 +8,10 @@ use lib.ListN.{getD, set}
 use Rattle.std.specs.declared.option.Option.{Option}
 use Rattle.std.specs.declared.option.Option.the-variants.{None}
 use Rattle.std.specs.declared.result.Result.the-variants.{Ok}
+use Rattle.std.proofs.shelf.Tests.{cond-false, ne-eqb}
 use Rattle.graph.specs.Model.{Model, Proper, ports}
 use Rattle.graph.proofs.Drawn.{inside}
-use Rattle.protocol.specs.First.{least}
+use Rattle.protocol.specs.First.{first, least}
 use Rattle.protocol.specs.Outputs.{stored}
 use Rattle.protocol.specs.Tree.{new-distance, new-parent, tree}
 use Rattle.protocol.proofs.FirstLaws.{first-cong}
@@ -32,6 +33,11 @@ module _ (m : Model) (p : Proper m) (f g : ℕ → ℕ) (same : (u : ℕ) → u 
   parent-same =
       ap (λ (o : Option ℕ). cond (eqb v (m .root)) None o)
       (first-cong (λ u. eqb (f u) (least f (ports m v))) (λ u. eqb (g u) (least g (ports m v))) (ports m v) (λ u a. ap₂ eqb (same u (inside m (p .drawn) u v a .1)) least-same))
+
+-- the parent of a node that is not the root is its first neighbour that has the least distance
+pub parent-found : (m : Model) (f : ℕ → ℕ) (v x : ℕ) → (v ≡ m .root → ⊥) → x ≡ least f (ports m v) → first (λ u. eqb (f u) x) (ports m v) ≡ new-parent m f v
+parent-found m f v x d e =
+    ap (λ (k : ℕ). first (λ u. eqb (f u) k) (ports m v)) e ∙ sym (cond-false (eqb v (m .root)) None (first (λ u. eqb (f u) (least f (ports m v))) (ports m v)) (ne-eqb v (m .root) d))
 
 -- both registers of v are written, by what the distances were
 pub tree-turned :

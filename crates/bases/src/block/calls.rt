@@ -4,6 +4,7 @@ ghost use lib.ListN.{replicate, set};
 ghost use Rattle.std.specs.Vec.{made};
 ghost use Rattle.bases.specs.Blocks.{Changed, held, register};
 use super::Block;
+use site::limits::NODES;
 use std::alloc::AllocError;
 use std::alloc::Global;
 
@@ -12,7 +13,7 @@ impl Block {
     pub fn new(heap: Global) -> Result<Block, AllocError>
         ensures { λ r. ⌜ made r (λ b. held b ≡ replicate 256 0) ⌝ }
     {
-        let values = vec![in heap; 0u16; 256]?;
+        let values = vec![in heap; 0u16; NODES]?;
         Ok(Block { values })
     }
 

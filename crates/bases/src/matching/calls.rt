@@ -1,6 +1,8 @@
-//! The calls of the matching. The rules, of which a turn takes the first that fits:
-//! M0, who names no neighbour names none; M1, who names none and is named by a neighbour names the first such;
-//! M2, who names none names the first neighbour that names none; M3, who names a node that names another names none.
+//! The calls of the matching. A turn takes the first of these rules that fits.
+//! M0: a node that names one that is no neighbour now names none.
+//! M1: a node that names none, and that neighbours name, names the first of them.
+//! M2: a node that names none names the first neighbour that names none.
+//! M3: a node that names one that names another now names none.
 ghost use mathlib.Core.Path.{_≡_};
 ghost use mathlib.Core.Bool.{cond};
 ghost use Prim.Native.Nat.{_<_, suc};
@@ -33,7 +35,7 @@ impl Matching {
         Ok(Matching { names })
     }
 
-    // whether a node names v
+    // whether u names v
     fn names_node(&self, u: u16, v: usize) -> bool
         ensures { λ r. ⌜ r ≡ eqb (register (now (self .entry) .names) u) (suc v) ⌝ }
     {
@@ -41,7 +43,7 @@ impl Matching {
         name != 0 && name - 1 == v
     }
 
-    // M1 and M2: what a node names that names none
+    // M1 and M2: what a node that names none comes to name
     fn chosen(&self, site: &Site, v: usize) -> u16
         requires { ⌜ v < model (now site) .nodes ⌝ }
         ensures { λ r. ⌜ r ≡ by-rules (model (now (site .entry))) (register (now (self .entry) .names)) v 0 ⌝ }
@@ -53,7 +55,7 @@ impl Matching {
         stored_first(site, &self.names, v, 0)
     }
 
-    // neither M0 nor M3: whether a node goes on naming u
+    // M0 and M3: whether a node goes on naming u, since neither fits
     fn stands(&self, site: &Site, v: usize, u: u16) -> bool
         ensures { λ r. ⌜ cond r (suc u) 0 ≡ by-rules (model (now (site .entry))) (register (now (self .entry) .names)) v (suc u) ⌝ }
     {
