@@ -1,1 +1,3 @@
 pub mod AskingsLaws
+mod Waits
+mod ScriptSound

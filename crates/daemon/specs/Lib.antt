@@ -1,1 +1,4 @@
 pub mod Dues
+pub mod RoundRobins
+pub mod ScriptChecks
+pub mod Scripts

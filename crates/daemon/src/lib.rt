@@ -3,6 +3,11 @@ ghost use Prim.Native.Nat.{ℕ};
 ghost use mathlib.Core.Path.{_≡_};
 ghost use Rattle.daemon.specs.Dues.{Asked, CompletesRounds, Dues, NamesAll, Timely};
 
+pub mod fault;
+pub mod limits;
+pub mod robin;
+pub mod script;
+
 /// Names the nodes that get turns, one at each asking. It is made for a number of nodes and has a patience:
 /// any askings in a row, as many as the patience, name every node. Nothing but an asking moves it.
 pub trait Daemon: Sized {
