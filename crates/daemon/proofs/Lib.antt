@@ -1,3 +1,4 @@
 pub mod AskingsLaws
 mod Waits
 mod ScriptSound
+mod OrdersLaws

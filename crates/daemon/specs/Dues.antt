@@ -24,10 +24,14 @@ pub record Asked (a : Dues) (v : ℕ) (z : Dues) : Type 0 where
   pub falls : (u : ℕ) → u < a .nodes → (u ≡ v → ⊥) → z .due u < a .due u
   pub timely : Timely z
 
--- askings one after the other, the oldest first, name these nodes
+-- askings one after the other, the oldest first, name these nodes; R says what one asking makes of a daemon
+abbrev pub Run : {X : Type 0} → (X → ℕ → X → Type 0) → X → List ℕ → X → Type 0
+Run R a [] z = z ≡ a
+Run {X} R a (v ∷ vs) z = (m : X) × R a v m × Run R m vs z
+
+-- askings of any daemon
 abbrev pub Askings : Dues → List ℕ → Dues → Type 0
-Askings a [] z = z ≡ a
-Askings a (v ∷ vs) z = (m : Dues) × Asked a v m × Askings m vs z
+Askings = Run Asked
 
 -- any askings in a row, as many as the patience, name every node
 abbrev pub NamesAll : Dues → Type 0

@@ -5,6 +5,7 @@ ghost use Rattle.daemon.specs.Dues.{Asked, CompletesRounds, Dues, NamesAll, Ti
 
 pub mod fault;
 pub mod limits;
+pub mod order;
 pub mod robin;
 pub mod script;
 
