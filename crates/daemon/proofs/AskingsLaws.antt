@@ -1,10 +1,10 @@
 -- Askings with dues leave no node out for long.
-use mathlib.Core.Path.{_≡_, refl, sym, subst}
+use mathlib.Core.Path.{_≡_, refl, subst}
 use mathlib.Core.List.{List, [], _∷_}
-use Prim.Native.Nat.{ℕ, _<_, _≤_}
+use Prim.Native.Nat.{ℕ}
 use Rattle.rounds.specs.Patience.{DueWithin, Due}
 use Rattle.rounds.proofs.PatienceLaws.{due-patient, patient-completes}
-use Rattle.daemon.specs.Dues.{Dues, Timely, Asked, Askings, NamesAll, CompletesRounds}
+use Rattle.daemon.specs.Dues.{Dues, Timely, Askings, NamesAll, CompletesRounds}
 
 timely-within : (n w : ℕ) (a : Dues) → a .nodes ≡ n → a .patience ≡ w → Timely a → DueWithin n w (a .due)
 timely-within n w a en ew t = subst (λ k. DueWithin k w (a .due)) en (subst (λ k. DueWithin (a .nodes) k (a .due)) ew t)

@@ -3,7 +3,7 @@ use mathlib.Core.Path.{_≡_}
 use mathlib.Core.List.{List, [], _∷_}
 use Prim.Native.Nat.{ℕ, _*_, _≤_, _<_}
 use lib.ListN.{length}
-use Rattle.rounds.specs.Rounds.{Covers, Completes}
+use Rattle.rounds.specs.Rounds.{Completes}
 use Rattle.rounds.specs.Patience.{DueWithin, Patient}
 
 -- what a daemon is at a time: its nodes are the numbers below `nodes`, and a node v is named within `due v` askings
@@ -16,7 +16,7 @@ pub record Dues : Type 0 where
 abbrev pub Timely : Dues → Type 0
 Timely d = DueWithin (d .nodes) (d .patience) (d .due)
 
--- an asking of a names the node v and leaves z
+-- what an asking makes of the dues a: it names the node v, and leaves the dues z
 pub record Asked (a : Dues) (v : ℕ) (z : Dues) : Type 0 where
   pub named : v < a .nodes
   pub nodes : z .nodes ≡ a .nodes

@@ -21,7 +21,7 @@ pub trait Daemon: Sized {
     fn nodes(&self) -> usize
         ensures { λ r. ⌜ r ≡ meaning (now (self .entry)) .nodes ⌝ };
 
-    /// Names a node.
+    /// Names a node, and declines no asking. Every other node is due sooner than before.
     fn ask(&mut self) -> usize
         ensures { λ r. ⌜ Asked (meaning (now (self .entry))) r (meaning (now (self .exit))) ⌝ };
 }

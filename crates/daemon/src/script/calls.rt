@@ -1,6 +1,6 @@
 //! Making and asking a script.
 ghost use mathlib.Core.Path.{_≡_};
-ghost use Prim.Native.Nat.{ℕ, _<_, _≤_};
+ghost use Prim.Native.Nat.{ℕ, _%_, _+_, _<_, _≤_};
 ghost use Rattle.std.specs.Orderings.{Decides};
 ghost use Rattle.lists.specs.Members.{Among};
 ghost use Rattle.daemon.specs.Dues.{Asked};
@@ -56,6 +56,14 @@ fn refusal(nodes: usize, names: &[u16]) -> Option<Refusal>
     None
 }
 
+/// The place after one of a list of that length, from the last to the first.
+fn after(place: usize, len: usize) -> usize
+    requires { ⌜ place < len ⌝ }
+    ensures { λ r. ⌜ r ≡ (place + 1) % len ⌝ }
+{
+    (place + 1) % len
+}
+
 impl Script {
     /// A script of these names that begins with the first. Declines: `Limit` unless there are 1 to 1,024 names
     /// and 1 to 256 nodes, then `Node` unless every name is one of the nodes, then `Missing` unless every node is named.
@@ -87,7 +95,7 @@ pub impl Daemon for Script as ScriptDaemon {
         ensures next { λ r. ⌜ ScriptAsked (now (self .entry)) r (now (self .exit)) ⌝ }
     {
         let v = self.names[self.at] as usize;
-        self.at = (self.at + 1) % self.names.len();
+        self.at = after(self.at, self.names.len());
         v
     }
 }

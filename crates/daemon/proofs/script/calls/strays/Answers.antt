@@ -1,5 +1,4 @@
 use mathlib.Core.Path.{refl}
-use mathlib.Core.Logic.{inl, inr}
 use native.Mathlib.Omega.{arith}
 use Rattle.std.proofs.shelf.Tests.{both-ways}
 use Rattle.daemon.proofs.ScriptSound.{stray-place, no-stray}

@@ -1,10 +1,10 @@
-use mathlib.Core.Path.{_≡_, refl, sym, ap, subst, _∙_}
+use mathlib.Core.Path.{_≡_, refl, sym, ap, _∙_}
 use Prim.Native.Nat.{ℕ, _+_, _%_, _<_}
 use native.Mathlib.Omega.{arith}
 use lib.ListN.{length, getD}
 use Rattle.std.proofs.shelf.Lists.{getD-read-under}
 use Rattle.lists.proofs.Elements.{among-getD}
-use Rattle.daemon.specs.Scripts.{names-of, upcoming, wait}
+use Rattle.daemon.specs.Scripts.{names-of}
 use Rattle.daemon.proofs.Waits.{waits-within, waits-fall}
 use Rattle.daemon.proofs.ScriptSound.{free-below, free-covers}
 use Rattle.daemon.proofs.script.calls.ScriptDaemon.ask.Needs as need
@@ -21,7 +21,7 @@ returns c =
     let within : place < length names = omega arith in
     let len : c .len .result ≡ length names = omega arith in
     let named : v ≡ getD names place 0 = getD-read-under names place (length names) v 0 (c .index .ensures) within refl in
-    let next : (place + 1) % c .len .result ≡ (place + 1) % length names = ap (λ (m : ℕ). (place + 1) % m) len in
+    let next : c .after-self .result ≡ (place + 1) % length names = c .after-self .ensures ∙ ap (λ (m : ℕ). (place + 1) % m) len in
     let every = free-covers (s .nodes) names (s .sound) in
     record {
       asked = record {
@@ -29,7 +29,7 @@ returns c =
         nodes = refl;
         patience = refl;
         falls = λ u l ne. rw next (waits-fall names place u within (every u l) (λ e. ne (e ∙ sym named)));
-        timely = waits-within (s .nodes) names ((place + 1) % c .len .result) every;
+        timely = waits-within (s .nodes) names (c .after-self .result) every;
       };
       next = record { named = named; place = next; names = refl; nodes = refl };
     }
