@@ -43,11 +43,11 @@ module _ {X : Type 0} (bytes : X → List ℕ) (rules : Rules X) (k : ℕ) where
   front-whole xs more line g = record { text = refl; lines = refl; good = g }
 
   -- what a reading left is a body
-  pub body-passed : (n count : ℕ) (p z : Spot) (before after : List X) → n ≡ count → BodyRead bytes rules k n p before (Ok tt) after z → Body bytes rules k count p (passed (take count after) z)
-  body-passed n count p z before after e h = subst (λ (j : ℕ). Body bytes rules k j p (passed (take j after) z)) e (h .0)
+  pub body-passed : (n count : ℕ) (p z : Spot) (before after : List X) (H : List X → Type 0) → n ≡ count → BodyRead bytes rules k n p before (Ok tt) after z H → Body bytes rules k count p (passed (take count after) z)
+  body-passed n count p z before after H e h = subst (λ (j : ℕ). Body bytes rules k j p (passed (take j after) z)) e (h .0)
 
-  pub body-stopped : (n count : ℕ) (p z : Spot) (before after : List X) (f : SheetFault) → n ≡ count → n ≤ length after → BodyRead bytes rules k n p before (Err f) after z → Body bytes rules k count p (refused f)
-  body-stopped n count p z before after f e le h =
+  pub body-stopped : (n count : ℕ) (p z : Spot) (before after : List X) (H : List X → Type 0) (f : SheetFault) → n ≡ count → n ≤ length after → BodyRead bytes rules k n p before (Err f) after z H → Body bytes rules k count p (refused f)
+  body-stopped n count p z before after H f e le h =
       let lt = h .1 in
       let l : length (take (h .0) after) ≡ h .0 = length-take-le (h .0) after (omega arith) in
       (take (h .0) after, (h .3 .0, omega arith, h .3 .1, h .3 .2))

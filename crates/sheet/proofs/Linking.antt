@@ -27,4 +27,4 @@ link-entered k before x m a b (Ok u) z e p q h =
     let t = subst (λ (m′ : Model). same m′ (x .a .value) (x .b .value)) e (subst (λ (a′ : ℕ). same m a′ (x .b .value)) p (subst (λ (b′ : ℕ). same m a b′) q h)) in
     (t .0, t .1 ∙ one-more k before x)
 link-entered k before x m a b (Err c) z e p q h =
-    subst (λ (m′ : Model). First (link-checks m′ (x .a .value) (x .b .value)) c) e (subst (λ (a′ : ℕ). First (link-checks m a′ (x .b .value)) c) p (subst (λ (b′ : ℕ). First (link-checks m a b′) c) q (h .0)))
+    (subst (λ (m′ : Model). First (link-checks m′ (x .a .value) (x .b .value)) c) e (subst (λ (a′ : ℕ). First (link-checks m a′ (x .b .value)) c) p (subst (λ (b′ : ℕ). First (link-checks m a b′) c) q (h .0))), h .1 ∙ e)

@@ -7,7 +7,7 @@ use Rattle.std.specs.shelf.Lists.{joined}
 use Rattle.std.specs.declared.result.Result.{Result}
 use Rattle.std.specs.declared.result.Result.the-variants.{Ok, Err}
 use Rattle.refusal.specs.Checks.{Checks, First, Free}
-use Rattle.text.specs.Spots.{Spot, spot, Takes, Why}
+use Rattle.text.specs.Spots.{Past, Spot, Takes, Why, spot}
 use Rattle.text.specs.declared.reader.Reader.{Reader}
 use Rattle.sheet.specs.declared.fault.SheetFault.{SheetFault}
 use Rattle.sheet.specs.declared.fault.SheetFault.the-variants.{Scan, Refused}
@@ -51,11 +51,17 @@ abbrev pub out : {A U : Type 0} → A → Reader → Result U SheetFault → Out
 out a z (Ok u) = passed a (spot z)
 out a z (Err e) = refused e
 
--- what reading so many lines into a list leaves: the lines read, and then the entries as they were
-abbrev pub BodyRead : {X : Type 0} → (X → List ℕ) → Rules X → ℕ → ℕ → Spot → List X → Result (Unit {0}) SheetFault → List X → Spot → Type 0
-BodyRead bytes rules k count p before (Ok u) after z = Body bytes rules k count p (passed (take count after) z) × (drop count after ≡ drop count before)
-BodyRead bytes rules k count p before (Err e) after z =
-    (i : ℕ) × (i < count) × (drop i after ≡ drop i before) × ((q : Spot) × Front bytes rules k (take i after) p q × Refuses bytes rules k (take i after) q e)
+-- where the reader stands after a line that is refused
+abbrev pub After : {X : Type 0} → (X → List ℕ) → Spot → SheetFault → Spot → Type 0
+After bytes q (Scan e) z = Past q e z
+After {X} bytes q (Refused c l) z = (x : X) × Takes bytes q x z
+
+-- what reading so many lines into a list leaves: the lines read, and then the entries as they were; H holds of the lines that
+-- the context has taken in, and the reader stands after the last line read
+abbrev pub BodyRead : {X : Type 0} → (X → List ℕ) → Rules X → ℕ → ℕ → Spot → List X → Result (Unit {0}) SheetFault → List X → Spot → (List X → Type 0) → Type 0
+BodyRead bytes rules k count p before (Ok u) after z H = Body bytes rules k count p (passed (take count after) z) × (drop count after ≡ drop count before) × H (take count after)
+BodyRead bytes rules k count p before (Err e) after z H =
+    (i : ℕ) × (i < count) × (drop i after ≡ drop i before) × ((q : Spot) × Front bytes rules k (take i after) p q × Refuses bytes rules k (take i after) q e × After bytes q e z) × H (take i after)
 
 -- lines that stand after so many others and before any text are what reading them would find
 abbrev pub BodyChecked : {X : Type 0} → (X → List ℕ) → Rules X → ℕ → List X → ℕ → Result (Unit {0}) SheetFault → Type 0

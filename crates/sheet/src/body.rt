@@ -1,7 +1,7 @@
 ghost use mathlib.Core.Path.{_≡_};
 ghost use mathlib.Core.List.{List, []};
 ghost use Prim.Native.Nat.{ℕ, _+_, _<_, _≤_};
-ghost use lib.ListN.{length, take};
+ghost use lib.ListN.{length};
 ghost use Rattle.std.specs.Vec.{made};
 ghost use Rattle.std.specs.declared.result.Result.the-variants.{Err};
 ghost use Rattle.refusal.specs.declared.Refusal.the-variants.{Short};
@@ -23,8 +23,7 @@ pub fn read_body<R: SheetLine>(
     into: &mut R::Context,
 ) -> Result<(), SheetFault>
     ensures short { λ r. ⌜ (length (now (list .entry)) < count → (r ≡ Err (Refused Short 0)) × (now (list .exit) ≡ now (list .entry)) × (now (rd .exit) ≡ now (rd .entry)) × (now (into .exit) ≡ now (into .entry))) ⌝ }
-    ensures read { λ r. ⌜ (count ≤ length (now (list .entry)) → (k : ℕ) → R·SheetLine .Holds (now (into .entry)) k [] → BodyRead (R·WriteLine .bytes) (R·SheetLine .checks) k count (spot (now (rd .entry))) (now (list .entry)) r (now (list .exit)) (spot (now (rd .exit)))) ⌝ }
-    ensures held { λ r. ⌜ (count ≤ length (now (list .entry)) → (k : ℕ) → R·SheetLine .Holds (now (into .entry)) k [] → made r (λ _. R·SheetLine .Holds (now (into .exit)) k (take count (now (list .exit))))) ⌝ }
+    ensures read { λ r. ⌜ (count ≤ length (now (list .entry)) → (k : ℕ) → R·SheetLine .Holds (now (into .entry)) k [] → BodyRead (R·WriteLine .bytes) (R·SheetLine .checks) k count (spot (now (rd .entry))) (now (list .entry)) r (now (list .exit)) (spot (now (rd .exit))) (R·SheetLine .Holds (now (into .exit)) k)) ⌝ }
 {
     if list.len() < count {
         return Err(SheetFault::Refused(Refusal::Short, 0));

@@ -50,6 +50,12 @@ Begun n r (Ok b) = Free (size-checks n r) × (draft b ≡ bare n r)
 Begun n r (Err (fault.Refused e)) = First (size-checks n r) e
 Begun n r (Err fault.Memory) = Free (size-checks n r)
 
+-- no fault but want of memory
+abbrev pub OnlyMemory : {A : Type 0} → Result A BuildFault → Type 0
+OnlyMemory (Ok a) = Unit {0}
+OnlyMemory (Err (fault.Refused e)) = ⊥
+OnlyMemory (Err fault.Memory) = Unit {0}
+
 -- a builder was started in memory that was had before
 abbrev pub Started : ℕ → ℕ → Result SiteBuilder Refusal → Type 0
 Started n r (Ok b) = Free (size-checks n r) × (draft b ≡ bare n r)

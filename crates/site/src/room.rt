@@ -1,7 +1,7 @@
 //! Memory for a site, had before it is wanted.
 ghost use mathlib.Core.Path.{_≡_};
 ghost use lib.ListN.{length};
-ghost use Rattle.site.specs.Entering.{Started};
+ghost use Rattle.site.specs.Entering.{OnlyMemory, Started};
 ghost use Rattle.site.specs.Sites.{draft};
 use crate::builder::SiteBuilder;
 use crate::fault::BuildFault;
@@ -18,8 +18,10 @@ pub struct SiteRoom {
 }
 
 impl SiteRoom {
-    /// Memory for the largest site.
-    pub fn new(heap: Global) -> Result<SiteRoom, BuildFault> {
+    /// Memory for the largest site; want of it is the only fault.
+    pub fn new(heap: Global) -> Result<SiteRoom, BuildFault>
+        ensures { λ r. ⌜ OnlyMemory r ⌝ }
+    {
         let builder = SiteBuilder::new(heap, NODES, 0)?;
         Ok(SiteRoom { builder })
     }

@@ -37,9 +37,15 @@ Why bytes p (Trailing l) = ⊥
 abbrev pub Takes : {X : Type 0} → (X → List ℕ) → Spot → X → Spot → Type 0
 Takes bytes p x q = (p .rest ≡ bytes x ++ (10 ∷ q .rest)) × (q .line ≡ p .line + 1)
 
+-- where a reader stands after that: as before if no line feed was left, else after the line
+abbrev pub Past : Spot → ScanFault → Spot → Type 0
+Past p (Form l) q = (line : List ℕ) × (p .rest ≡ line ++ (10 ∷ q .rest)) × Lacks 10 line × (q .line ≡ p .line + 1)
+Past p (Lacking l) q = q ≡ p
+Past p (Trailing l) q = ⊥
+
 abbrev pub Got : {X : Type 0} → (X → List ℕ) → Reader → Result X ScanFault → Reader → Type 0
 Got bytes a (Ok x) z = Takes bytes (spot a) x (spot z)
-Got bytes a (Err e) z = Why bytes (spot a) e
+Got bytes a (Err e) z = Why bytes (spot a) e × Past (spot a) e (spot z)
 
 -- nothing is left
 abbrev pub AtEnd : Spot → Result (Unit {0}) ScanFault → Type 0

@@ -15,7 +15,7 @@ returns-in-Err g c =
     record {
       checked = λ k h.
           let p = c .loop-i .inv k h in
-          body-refused (g .R·WriteLine .bytes) (g .R·SheetLine .checks) k xs i (c .index-list-i .result) (c .args .line) (c .in-Err .e) (c .loop-i-test .taken) (c .index-list-i .is) (p .1) (c .in-Err .ensures tt k (take i xs) (p .0));
+          body-refused (g .R·WriteLine .bytes) (g .R·SheetLine .checks) k xs i (c .index-list-i .result) (c .args .line) (c .in-Err .e) (c .loop-i-test .taken) (c .index-list-i .is) (p .1) (c .in-Err .ensures tt k (take i xs) (p .0) .0);
       held = λ k h. tt;
     }
 

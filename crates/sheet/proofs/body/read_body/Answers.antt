@@ -20,10 +20,10 @@ pub returns-in-Break-x : need.returns-in-Break-x
 returns-in-Break-x g c =
     let i = c .loop-i .i in
     let p = err-from-errBy (c .from-residual .result) (c .from-residual .ensures .1) in
+    let why = c .in-Break-x .ensures tt in
     rw (p .1, p .2) (record {
       short = λ few. absurd (omega arith);
-      read = λ room k h. (i, omega arith, c .loop-i .inv .1, (spot (c .loop-i .rd), c .loop-i .inv .0 k h .1, c .in-Break-x .ensures tt));
-      held = λ room k h. tt;
+      read = λ room k h. let q = c .loop-i .inv .0 k h in (i, omega arith, c .loop-i .inv .1, (spot (c .loop-i .rd), q .1, why .0, why .1), q .0);
     })
 
 pub returns-in-Err : need.returns-in-Err
@@ -36,8 +36,8 @@ returns-in-Err g c =
       short = λ few. absurd (omega arith);
       read = λ room k h.
           let p = c .loop-i .inv .0 k h in
-          (i, omega arith, c .loop-i .inv .1, (spot (c .loop-i .rd), p .1, (c .lines-n .ensures ∙ got .1, (x, (spot (c .read .last .self), got, c .in-Err .ensures tt k (take i list) (p .0))))));
-      held = λ room k h. tt;
+          let en = c .in-Err .ensures tt k (take i list) (p .0) in
+          (i, omega arith, c .loop-i .inv .1, (spot (c .loop-i .rd), p .1, (c .lines-n .ensures ∙ got .1, (x, (spot (c .read .last .self), got, en .0))), (x, got)), en .1);
     }
 
 pub loop-i-again : need.loop-i-again
@@ -61,6 +61,5 @@ returns g c =
     let len : length (take (c .loop-i .i) (c .loop-i .list)) ≡ c .loop-i .i = length-take-le (c .loop-i .i) (c .loop-i .list) (omega (arith, c .loop-i .kept .list)) in
     record {
       short = λ few. absurd (omega arith);
-      read = λ room k h. rw (sym n) ((len, c .loop-i .inv .0 k h .1), c .loop-i .inv .1);
-      held = λ room k h. rw (sym n) (c .loop-i .inv .0 k h .0);
+      read = λ room k h. let q = c .loop-i .inv .0 k h in rw (sym n) ((len, q .1), c .loop-i .inv .1, q .0);
     }

@@ -20,7 +20,7 @@ returns-in-Break-read-body c =
     let len : length l ≡ 4 = c .read-body .kept .list in
     let h = c .in-Break-read-body .ensures tt .read (omega arith) 0 (c .new-progress .ensures) in
     rw (p .1, p .2) (record {
-      read = inl (body-stopped contents-bytes contents-rules 0 4 4 (spot (c .args .rd .now)) (spot (c .read-body .last .rd)) _ l (c .in-Break-read-body .field-0 .0) refl (omega arith) h);
+      read = inl (body-stopped contents-bytes contents-rules 0 4 4 (spot (c .args .rd .now)) (spot (c .read-body .last .rd)) _ l (λ xs. c .read-body .last .into .lines ≡ length xs) (c .in-Break-read-body .field-0 .0) refl (omega arith) h);
       limits = tt;
     })
 

@@ -31,7 +31,7 @@ returns-in-Break-read-body c =
     let h = c .in-Break-read-body .ensures tt .read (omega arith) (places ns) (omega arith) in
     rw (p .1, p .2) (record {
       read = at-faults ns (spot (c .args .rd .now)) (take (ns .links .value) (c .read-links .last .links)) (spot (c .read-links .last .rd)) (c .in-Continue-site .ensures tt .read) e
-          (body-stopped fault-bytes fault-rules (places ns) (c .get-count .result) (ns .faults .value) (spot (c .read-links .last .rd)) (spot (c .read-body .last .rd)) _ (c .read-body .last .list) e n (omega arith) h);
+          (body-stopped fault-bytes fault-rules (places ns) (c .get-count .result) (ns .faults .value) (spot (c .read-links .last .rd)) (spot (c .read-body .last .rd)) _ (c .read-body .last .list) (λ _. c .read-body .last .into .count ≡ places ns) e n (omega arith) h);
       site = tt;
     })
 
@@ -46,7 +46,7 @@ returns-in-Break-read-turns c =
     let n = c .get-count .ensures in
     let q = spot (c .read-links .last .rd) in
     let r = spot (c .read-body .last .rd) in
-    let faults = body-passed fault-bytes fault-rules (places ns) (c .get-count .result) (ns .faults .value) q r _ (c .read-body .last .list) n (c .in-Continue-read-body .ensures tt .read (omega arith) (places ns) (omega arith)) in
+    let faults = body-passed fault-bytes fault-rules (places ns) (c .get-count .result) (ns .faults .value) q r _ (c .read-body .last .list) (λ _. c .read-body .last .into .count ≡ places ns) n (c .in-Continue-read-body .ensures tt .read (omega arith) (places ns) (omega arith)) in
     rw (p .1, p .2) (record {
       read = at-turns ns (spot (c .args .rd .now)) (take (ns .links .value) (c .read-links .last .links)) q (c .in-Continue-site .ensures tt .read) (take (ns .faults .value) (c .read-body .last .list)) r faults (c .in-Break-read-turns .field-0 .0) (c .in-Break-read-turns .ensures tt);
       site = tt;
@@ -63,7 +63,7 @@ returns-in-Break-end c =
     let n = c .get-count .ensures in
     let q = spot (c .read-links .last .rd) in
     let r = spot (c .read-body .last .rd) in
-    let faults = body-passed fault-bytes fault-rules (places ns) (c .get-count .result) (ns .faults .value) q r _ (c .read-body .last .list) n (c .in-Continue-read-body .ensures tt .read (omega arith) (places ns) (omega arith)) in
+    let faults = body-passed fault-bytes fault-rules (places ns) (c .get-count .result) (ns .faults .value) q r _ (c .read-body .last .list) (λ _. c .read-body .last .into .count ≡ places ns) n (c .in-Continue-read-body .ensures tt .read (omega arith) (places ns) (omega arith)) in
     rw (p .1, p .2) (record {
       read = at-end ns (spot (c .args .rd .now)) (take (ns .links .value) (c .read-links .last .links)) q (c .in-Continue-site .ensures tt .read) (take (ns .faults .value) (c .read-body .last .list)) r faults (take (ns .turns .value) (c .read-turns .last .turns)) (spot (c .read-turns .last .rd)) (c .in-Continue-read-turns .ensures tt) (c .in-Break-end .field-0 .0) (c .in-Break-end .ensures tt);
       site = tt;
@@ -81,7 +81,7 @@ returns c =
     let q = spot (c .read-links .last .rd) in
     let r = spot (c .read-body .last .rd) in
     let s = spot (c .read-turns .last .rd) in
-    let faults = body-passed fault-bytes fault-rules (places ns) (c .get-count .result) (ns .faults .value) q r _ (c .read-body .last .list) n (c .in-Continue-read-body .ensures tt .read (omega arith) (places ns) (omega arith)) in
+    let faults = body-passed fault-bytes fault-rules (places ns) (c .get-count .result) (ns .faults .value) q r _ (c .read-body .last .list) (λ _. c .read-body .last .into .count ≡ places ns) n (c .in-Continue-read-body .ensures tt .read (omega arith) (places ns) (omega arith)) in
     record {
       read = all-lines ns p (take (ns .links .value) (c .read-links .last .links)) q (c .in-Continue-site .ensures tt .read) (take (ns .faults .value) (c .read-body .last .list)) r faults (take (ns .turns .value) (c .read-turns .last .turns)) s (c .in-Continue-read-turns .ensures tt) (c .in-Continue-end .ensures tt);
       site = c .in-Continue-site .ensures tt .site;

@@ -27,7 +27,7 @@ returns-in-Break-read-body c =
     let e = c .in-Break-read-body .field-0 .0 in
     let h = c .in-Break-read-body .ensures tt .read (omega arith) (ns .nodes .value) (c .pre .draft) in
     rw (p .1, p .2) (record {
-      read = links-stop ns (spot (c .args .rd .now)) e (body-stopped link-bytes link-rules (ns .nodes .value) (c .get-count .result) (ns .links .value) (spot (c .args .rd .now)) (spot (c .read-body .last .rd)) _ (c .read-body .last .list) e n (omega arith) h);
+      read = links-stop ns (spot (c .args .rd .now)) e (body-stopped link-bytes link-rules (ns .nodes .value) (c .get-count .result) (ns .links .value) (spot (c .args .rd .now)) (spot (c .read-body .last .rd)) _ (c .read-body .last .list) (λ xs. draft (c .read-body .last .into) ≡ site-of (ns .nodes .value) xs) e n (omega arith) h);
       site = tt;
     })
 
@@ -37,9 +37,9 @@ returns-in-Ok c =
     let n = c .get-count .ensures in
     let few = c .pre .few in
     let list = c .read-body .last .list in
-    let body = body-passed link-bytes link-rules (ns .nodes .value) (c .get-count .result) (ns .links .value) (spot (c .args .rd .now)) (spot (c .read-body .last .rd)) _ list n (c .in-Continue-read-body .ensures tt .read (omega arith) (ns .nodes .value) (c .pre .draft)) in
+    let body = body-passed link-bytes link-rules (ns .nodes .value) (c .get-count .result) (ns .links .value) (spot (c .args .rd .now)) (spot (c .read-body .last .rd)) _ list (λ xs. draft (c .read-body .last .into) ≡ site-of (ns .nodes .value) xs) n (c .in-Continue-read-body .ensures tt .read (omega arith) (ns .nodes .value) (c .pre .draft)) in
     let held : draft (c .read-body .last .into) ≡ site-of (ns .nodes .value) (take (ns .links .value) list) =
-    c .in-Continue-read-body .ensures tt .held (omega arith) (ns .nodes .value) (c .pre .draft) ∙ ap (λ (k : ℕ). site-of (ns .nodes .value) (take k list)) n in
+    c .in-Continue-read-body .ensures tt .read (omega arith) (ns .nodes .value) (c .pre .draft) .2 ∙ ap (λ (k : ℕ). site-of (ns .nodes .value) (take k list)) n in
     let fin = c .in-Ok .ensures tt in
     record {
       read = links-pass ns (spot (c .args .rd .now)) (take (ns .links .value) list) (spot (c .read-body .last .rd)) body (subst Proper held (fin .1) .reached);
@@ -54,9 +54,9 @@ returns-in-Err c =
     let list = c .read-body .last .list in
     let p = spot (c .args .rd .now) in
     let q = spot (c .read-body .last .rd) in
-    let body = body-passed link-bytes link-rules (ns .nodes .value) (c .get-count .result) (ns .links .value) p q _ list n (c .in-Continue-read-body .ensures tt .read (omega arith) (ns .nodes .value) (c .pre .draft)) in
+    let body = body-passed link-bytes link-rules (ns .nodes .value) (c .get-count .result) (ns .links .value) p q _ list (λ xs. draft (c .read-body .last .into) ≡ site-of (ns .nodes .value) xs) n (c .in-Continue-read-body .ensures tt .read (omega arith) (ns .nodes .value) (c .pre .draft)) in
     let held : draft (c .read-body .last .into) ≡ site-of (ns .nodes .value) (take (ns .links .value) list) =
-    c .in-Continue-read-body .ensures tt .held (omega arith) (ns .nodes .value) (c .pre .draft) ∙ ap (λ (k : ℕ). site-of (ns .nodes .value) (take k list)) n in
+    c .in-Continue-read-body .ensures tt .read (omega arith) (ns .nodes .value) (c .pre .draft) .2 ∙ ap (λ (k : ℕ). site-of (ns .nodes .value) (take k list)) n in
     let fin = c .in-Err .ensures tt in
     let stop = links-unreached ns p (take (ns .links .value) list) q body (subst (λ (m : Model). Reached m → ⊥) held (fin .1)) in
     record {

@@ -30,7 +30,7 @@ returns-in-Break-read-body c =
     let e = c .in-Break-read-body .field-0 .0 in
     let h = c .in-Break-read-body .ensures tt .read (omega arith) (ns .nodes .value) (c .get-n .ensures) in
     rw (p .1, p .2) (turns-stop ns (spot (c .args .rd .now)) e
-    (body-stopped turn-bytes turn-rules (ns .nodes .value) (c .get-count .result) (ns .turns .value) (spot (c .args .rd .now)) (spot (c .read-body .last .rd)) _ (c .read-body .last .list) e n (omega arith) h))
+    (body-stopped turn-bytes turn-rules (ns .nodes .value) (c .get-count .result) (ns .turns .value) (spot (c .args .rd .now)) (spot (c .read-body .last .rd)) _ (c .read-body .last .list) (λ _. c .read-body .last .into .count ≡ ns .nodes .value) e n (omega arith) h))
 
 pub returns-then-misses : need.returns-then-misses
 returns-then-misses c =
@@ -40,7 +40,7 @@ returns-then-misses c =
     let list = c .read-body .last .list in
     let p = spot (c .args .rd .now) in
     let q = spot (c .read-body .last .rd) in
-    let body = body-passed turn-bytes turn-rules (ns .nodes .value) (c .get-count .result) (ns .turns .value) p q _ list n (c .in-Continue-read-body .ensures tt .read (omega arith) (ns .nodes .value) (c .get-n .ensures)) in
+    let body = body-passed turn-bytes turn-rules (ns .nodes .value) (c .get-count .result) (ns .turns .value) p q _ list (λ _. c .read-body .last .into .count ≡ ns .nodes .value) n (c .in-Continue-read-body .ensures tt .read (omega arith) (ns .nodes .value) (c .get-n .ensures)) in
     let missed : Decides (c .misses .result) (Missed (ns .nodes .value) (take (ns .turns .value) list)) =
     told-missed (c .misses .result) (c .get-n .result) (ns .nodes .value) (take (c .get-count .result - 0) list) (take (ns .turns .value) list) (c .get-n .ensures) (ap (λ (k : ℕ). take k list) (sub-zero (c .get-count .result) ∙ n)) (c .misses .ensures) in
     subst (λ (l : ℕ). turn-lines ns p (refused (Refused Missing l))) (sym (c .lines .ensures)) (turns-missing ns p (take (ns .turns .value) list) q body (missed .0 (c .if-misses .taken)))
@@ -53,7 +53,7 @@ returns c =
     let list = c .read-body .last .list in
     let p = spot (c .args .rd .now) in
     let q = spot (c .read-body .last .rd) in
-    let body = body-passed turn-bytes turn-rules (ns .nodes .value) (c .get-count .result) (ns .turns .value) p q _ list n (c .in-Continue-read-body .ensures tt .read (omega arith) (ns .nodes .value) (c .get-n .ensures)) in
+    let body = body-passed turn-bytes turn-rules (ns .nodes .value) (c .get-count .result) (ns .turns .value) p q _ list (λ _. c .read-body .last .into .count ≡ ns .nodes .value) n (c .in-Continue-read-body .ensures tt .read (omega arith) (ns .nodes .value) (c .get-n .ensures)) in
     let missed : Decides (c .misses .result) (Missed (ns .nodes .value) (take (ns .turns .value) list)) =
     told-missed (c .misses .result) (c .get-n .result) (ns .nodes .value) (take (c .get-count .result - 0) list) (take (ns .turns .value) list) (c .get-n .ensures) (ap (λ (k : ℕ). take k list) (sub-zero (c .get-count .result) ∙ n)) (c .misses .ensures) in
     turns-pass ns p (take (ns .turns .value) list) q body (not-from-decides (c .misses .result) missed (c .if-misses .left))
