@@ -22,6 +22,12 @@ pub struct Answer {
 /// No refusal.
 pub const ACCEPTED: Answer = Answer { number: 0, line: 0 };
 
+/// A list or a page is too short.
+pub const NO_ROOM: Answer = Answer {
+    number: 14,
+    line: 0,
+};
+
 /// Lists and a site's place for sheets.
 #[derive(Drop)]
 pub struct Desk {
@@ -32,35 +38,44 @@ pub struct Desk {
     pub site: Option<Site>,
 }
 
-/// A number of at most five digits.
-pub fn number(value: u32) -> Result<Number, Fail> {
+/// A number of at most five digits; 0 for more.
+pub fn number(value: u32) -> Number {
     match Number::new(value) {
-        Some(n) => Ok(n),
-        None => Err(Fail::new("more than five digits")),
+        Some(n) => n,
+        None => Number::zero(),
     }
 }
 
 /// A link line of these ends.
-pub fn link(a: u32, b: u32) -> Result<LinkLine, Fail> {
-    Ok(LinkLine {
-        a: number(a)?,
-        b: number(b)?,
-    })
+pub fn link(a: u32, b: u32) -> LinkLine {
+    LinkLine {
+        a: number(a),
+        b: number(b),
+    }
 }
 
 /// A fault line of this register and value.
-pub fn fault(register: u32, value: u32) -> Result<FaultLine, Fail> {
-    Ok(FaultLine {
-        register: number(register)?,
-        value: number(value)?,
-    })
+pub fn fault(register: u32, value: u32) -> FaultLine {
+    FaultLine {
+        register: number(register),
+        value: number(value),
+    }
 }
 
 /// A turn line of this node.
-pub fn turn(node: u32) -> Result<TurnLine, Fail> {
-    Ok(TurnLine {
-        node: number(node)?,
-    })
+pub fn turn(node: u32) -> TurnLine {
+    TurnLine { node: number(node) }
+}
+
+/// Contents numbers: nodes, links, faults, turns.
+pub fn contents(numbers: [u32; 4]) -> Contents {
+    let [nodes, links, faults, turns] = numbers;
+    Contents {
+        nodes: number(nodes),
+        links: number(links),
+        faults: number(faults),
+        turns: number(turns),
+    }
 }
 
 /// The numbers of a fault.
@@ -82,9 +97,9 @@ impl Desk {
     pub fn sized(heap: Global, links: usize, faults: usize, turns: usize) -> Result<Desk, Fail> {
         Ok(Desk {
             heap,
-            links: vec![in heap; link(7, 7)?; links]?,
-            faults: vec![in heap; fault(7, 7)?; faults]?,
-            turns: vec![in heap; turn(7)?; turns]?,
+            links: vec![in heap; link(7, 7); links]?,
+            faults: vec![in heap; fault(7, 7); faults]?,
+            turns: vec![in heap; turn(7); turns]?,
             site: None,
         })
     }
@@ -94,8 +109,8 @@ impl Desk {
         Desk::sized(heap, 1024, 4096, 1024)
     }
 
-    /// Reads a sheet, with memory for its site.
-    pub fn read(&mut self, bytes: &[u8]) -> Result<Result<Contents, Answer>, Fail> {
+    /// What reading a sheet answers, and its contents; all 0 for a declined one.
+    pub fn read(&mut self, bytes: &[u8]) -> Result<(Answer, Contents), Fail> {
         let room = SiteRoom::new(self.heap)?;
         match read_sheet(
             bytes,
@@ -105,23 +120,16 @@ impl Desk {
             room,
             &mut self.site,
         ) {
-            Ok(ns) => Ok(Ok(ns)),
-            Err(e) => Ok(Err(refused(e))),
+            Ok(ns) => Ok((ACCEPTED, ns)),
+            Err(e) => Ok((refused(e), contents([0; 4]))),
         }
     }
 
     /// What reading a sheet answers, once it is seen that every entry past the read ones is 0.
     pub fn answer(&mut self, bytes: &[u8]) -> Result<Answer, Fail> {
-        match self.read(bytes)? {
-            Ok(ns) => {
-                check(self.is_clear(ns.links.get(), ns.faults.get(), ns.turns.get()))?;
-                Ok(ACCEPTED)
-            }
-            Err(answer) => {
-                check(self.is_clear(0, 0, 0))?;
-                Ok(answer)
-            }
-        }
+        let (answer, ns) = self.read(bytes)?;
+        check(self.is_clear(ns.links.get(), ns.faults.get(), ns.turns.get()))?;
+        Ok(answer)
     }
 
     /// Whether every entry from these places on is 0.

@@ -4,6 +4,7 @@ use crate::desk::Answer;
 use crate::desk::AnswerDebug;
 use crate::desk::AnswerPartialEq;
 use crate::desk::Desk;
+use crate::desk::NO_ROOM;
 use refusal::RefusalDebug;
 use std::alloc::Global;
 use std::fmt::Write;
@@ -70,41 +71,34 @@ fn sizes(heap: Global, sheet: &str, at_limit: Answer) -> Result<(), Fail> {
 }
 
 // Lists without room are declined before a byte is looked at, and stay.
-fn short(
-    heap: Global,
-    links: usize,
-    faults: usize,
-    turns: usize,
-    sheet: &[u8],
-) -> Result<(), Fail> {
-    let mut desk = Desk::sized(heap, links, faults, turns)?;
-    match desk.read(sheet)? {
-        Ok(_) => return Err(Fail::new("read")),
-        Err(answer) => check_eq(
-            answer,
-            Answer {
-                number: 14,
-                line: 0,
-            },
-        )?,
-    }
-    check(desk.is_full())?;
-    check(desk.site.is_none())
+fn short(heap: Global, lists: [usize; 3], sheet: &[u8]) -> Result<(), Fail> {
+    let mut desk = Desk::sized(heap, lists[0], lists[1], lists[2])?;
+    let (answer, _) = desk.read(sheet)?;
+    check_eq(answer, NO_ROOM)?;
+    check(desk.is_full() && desk.site.is_none())
+}
+
+// Longer lists are cleared to their ends.
+fn longer(heap: Global) -> Result<(), Fail> {
+    let mut desk = Desk::sized(heap, 1025, 4097, 1030)?;
+    check_eq(desk.answer(LEAST.as_bytes())?, ACCEPTED)
 }
 
 #[test]
 fn limits(rt: LibcRuntime) -> Result<(), Fail> {
-    let heap = rt.alloc();
-    sizes(heap, LEAST, Answer { number: 1, line: 5 })?;
-    sizes(heap, "", Answer { number: 1, line: 1 })?;
+    sizes(rt.alloc(), LEAST, Answer { number: 1, line: 5 })?;
+    sizes(rt.alloc(), "", Answer { number: 1, line: 1 })?;
     for sheet in [LEAST, "", "x"] {
-        short(heap, 1023, 4096, 1024, sheet.as_bytes())?;
-        short(heap, 1024, 4095, 1024, sheet.as_bytes())?;
-        short(heap, 1024, 4096, 1023, sheet.as_bytes())?;
-        short(heap, 0, 0, 0, sheet.as_bytes())?;
+        for lists in [
+            [1023, 4096, 1024],
+            [1024, 4095, 1024],
+            [1024, 4096, 1023],
+            [0, 0, 0],
+        ] {
+            short(rt.alloc(), lists, sheet.as_bytes())?;
+        }
     }
-    let mut desk = Desk::sized(heap, 1025, 4097, 1030)?;
-    check_eq(desk.answer(LEAST.as_bytes())?, ACCEPTED)
+    longer(rt.alloc())
 }
 
 // The distances of a few nodes, and the greatest.
@@ -118,24 +112,32 @@ fn spans(desk: &Desk, some: [(usize, usize); 5], height: usize) -> Result<(), Fa
     check_eq(site.height(), height)
 }
 
-#[test]
-fn large(rt: LibcRuntime) -> Result<(), Fail> {
-    let heap = rt.alloc();
-    let mut desk = Desk::new(heap)?;
-    check_eq(desk.answer(row(heap, 256)?.as_bytes())?, ACCEPTED)?;
-    spans(&desk, [(0, 0), (1, 1), (2, 2), (254, 254), (255, 255)], 255)?;
-    let past = Answer { number: 2, line: 1 };
-    check_eq(desk.answer(row(heap, 257)?.as_bytes())?, past)?;
-    spans(&desk, [(0, 0), (1, 1), (2, 2), (254, 254), (255, 255)], 255)?;
-    let sheet = largest(heap)?;
+// Reads a row, and finds the row of 256 nodes in the site's place.
+fn reads_row(desk: &mut Desk, nodes: u32, expected: Answer) -> Result<(), Fail> {
+    let sheet = row(desk.heap, nodes)?;
+    check_eq(desk.answer(sheet.as_bytes())?, expected)?;
+    spans(desk, [(0, 0), (1, 1), (2, 2), (254, 254), (255, 255)], 255)
+}
+
+// Reads the largest sheet.
+fn reads_largest(desk: &mut Desk) -> Result<(), Fail> {
+    let sheet = largest(desk.heap)?;
     check_eq(desk.answer(sheet.as_bytes())?, ACCEPTED)?;
-    spans(&desk, [(4, 1), (5, 2), (128, 32), (251, 2), (252, 1)], 32)?;
+    spans(desk, [(4, 1), (5, 2), (128, 32), (251, 2), (252, 1)], 32)?;
     sizes(
-        heap,
+        desk.heap,
         sheet.as_str(),
         Answer {
             number: 1,
             line: 6149,
         },
     )
+}
+
+#[test]
+fn large_sheets(rt: LibcRuntime) -> Result<(), Fail> {
+    let mut desk = Desk::new(rt.alloc())?;
+    reads_row(&mut desk, 256, ACCEPTED)?;
+    reads_row(&mut desk, 257, Answer { number: 2, line: 1 })?;
+    reads_largest(&mut desk)
 }

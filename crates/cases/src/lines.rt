@@ -55,7 +55,6 @@ fn value(field: &[u8]) -> u32 {
     }
 }
 
-#[test]
 fn fields() -> Result<(), Fail> {
     check_eq(value(b"0"), 0)?;
     check_eq(value(b"9"), 9)?;
@@ -74,41 +73,50 @@ fn fields() -> Result<(), Fail> {
     check_eq(line_end(b""), 0)
 }
 
-// The line onto a page of dots, after three of them and before two, and onto a page that is one byte short.
-fn writes<L: WriteLine>(heap: Global, line: &L, text: &[u8]) -> Result<(), Fail> {
-    check_eq(line.size(), text.len())?;
-    let mut expected = b"...".to_vec(heap)?;
-    expected.extend_from_slice(text)?;
-    let end = expected.len();
-    let mut tight = vec![in heap; b'.'; end.saturating_sub(1)]?;
-    check(line.write(&mut tight, 3).is_none())?;
-    for x in &tight {
+// Onto a page of dots that is one byte short after the third: nothing.
+fn declines<L: WriteLine>(heap: Global, line: &L, size: usize) -> Result<(), Fail> {
+    let mut page = vec![in heap; b'.'; size.saturating_add(2)]?;
+    check(line.write(&mut page, 3).is_none())?;
+    for x in &page {
         check_eq(*x, b'.')?;
     }
+    Ok(())
+}
+
+// Onto a page of dots, after three of them and before two.
+fn leaves<L: WriteLine>(heap: Global, line: &L, text: &[u8]) -> Result<(), Fail> {
+    let mut expected = b"...".to_vec(heap)?;
+    expected.extend_from_slice(text)?;
     expected.extend_from_slice(b"..")?;
     let mut page = vec![in heap; b'.'; expected.len()]?;
-    check_eq(line.write(&mut page, 3), Some(end))?;
+    check_eq(line.write(&mut page, 3), Some(text.len().saturating_add(3)))?;
     check(page.as_slice() == expected.as_slice())
+}
+
+fn writes<L: WriteLine>(heap: Global, line: &L, text: &[u8]) -> Result<(), Fail> {
+    check_eq(line.size(), text.len())?;
+    declines(heap, line, text.len())?;
+    leaves(heap, line, text)
 }
 
 // The lines of a sheet.
 fn writes_sheet_lines(heap: Global) -> Result<(), Fail> {
     let head = ContentsLine {
         word: Word::Faults,
-        number: number(4096)?,
+        number: number(4096),
     };
     writes(heap, &head, b"FAULTS;4096")?;
     let link = LinkLine {
-        a: number(0)?,
-        b: number(255)?,
+        a: number(0),
+        b: number(255),
     };
     writes(heap, &link, b"0;255")?;
     let fault = FaultLine {
-        register: number(3327)?,
-        value: number(65535)?,
+        register: number(3327),
+        value: number(65535),
     };
     writes(heap, &fault, b"3327;65535")?;
-    let turn = TurnLine { node: number(10)? };
+    let turn = TurnLine { node: number(10) };
     writes(heap, &turn, b"10")
 }
 
@@ -116,33 +124,33 @@ fn writes_sheet_lines(heap: Global) -> Result<(), Fail> {
 fn writes_report_lines(heap: Global) -> Result<(), Fail> {
     let bound = Tally {
         word: TallyWord::Bound,
-        number: number(12)?,
+        number: number(12),
     };
     writes(heap, &bound, b"BOUND;12")?;
     let last = Tally {
         word: TallyWord::Last,
-        number: number(0)?,
+        number: number(0),
     };
     writes(heap, &last, b"LAST;0")?;
     let refused = RefusedLine {
-        number: number(3)?,
-        line: number(17)?,
+        number: number(3),
+        line: number(17),
     };
     writes(heap, &refused, b"REFUSED;3;17")?;
     let alone = NodeLine {
-        node: number(3)?,
+        node: number(3),
         parent: None,
-        count: number(20)?,
-        rank: number(0)?,
+        count: number(20),
+        rank: number(0),
         mate: None,
     };
     writes(heap, &alone, b"3;-;20;0;-")?;
     let told = NodeLine {
-        node: number(255)?,
-        parent: Some(number(0)?),
-        count: number(1)?,
-        rank: number(9)?,
-        mate: Some(number(254)?),
+        node: number(255),
+        parent: Some(number(0)),
+        count: number(1),
+        rank: number(9),
+        mate: Some(number(254)),
     };
     writes(heap, &told, b"255;0;1;9;254")
 }
@@ -169,6 +177,7 @@ fn reads() -> Result<(), Fail> {
 
 #[test]
 fn lines(rt: LibcRuntime) -> Result<(), Fail> {
+    fields()?;
     writes_sheet_lines(rt.alloc())?;
     writes_report_lines(rt.alloc())?;
     reads()

@@ -39,13 +39,9 @@ fn judge_all(heap: Global, tables: &[Table]) -> Result<(), Fail> {
 }
 
 #[test]
-fn contents_lines(rt: LibcRuntime) -> Result<(), Fail> {
-    judge_all(rt.alloc(), &CONTENTS)
-}
-
-#[test]
-fn body_lines(rt: LibcRuntime) -> Result<(), Fail> {
-    judge_all(rt.alloc(), &LINKS)?;
-    judge_all(rt.alloc(), &FAULTS)?;
-    judge_all(rt.alloc(), &TURNS)
+fn sheets_read(rt: LibcRuntime) -> Result<(), Fail> {
+    for tables in [&CONTENTS[..], &LINKS[..], &FAULTS[..], &TURNS[..]] {
+        judge_all(rt.alloc(), tables)?;
+    }
+    Ok(())
 }

@@ -118,36 +118,41 @@ fn tells(site: &Site, root: usize, distances: [usize; 5]) -> Result<(), Fail> {
     check(site.distance(5).is_err())
 }
 
-// The ports and arcs of the five nodes.
+// The ports of its nodes and of the first number past them, and the arcs before each.
+static PORTS: [&'static [u16]; 6] = [&[1, 2], &[0, 3], &[0, 3], &[1, 2, 4], &[3], &[]];
+
+static FIRST_ARCS: [usize; 6] = [0, 2, 4, 6, 9, 10];
+
 fn ported(site: &Site) -> Result<(), Fail> {
-    check(site.ports(0) == &[1, 2])?;
-    check(site.ports(1) == &[0, 3])?;
-    check(site.ports(2) == &[0, 3])?;
-    check(site.ports(3) == &[1, 2, 4])?;
-    check(site.ports(4) == &[3])?;
-    check_eq(site.ports(5).len(), 0)?;
-    let firsts = [0, 2, 4, 6, 9, 10, 10];
-    for v in 0..7 {
-        check_eq(site.first_arc(v), firsts[v])?;
+    for v in 0..6 {
+        check(site.ports(v) == PORTS[v] && site.first_arc(v) == FIRST_ARCS[v]).note(v)?;
     }
     Ok(())
+}
+
+// The site of a sheet.
+fn told(desk: &Desk) -> Result<(), Fail> {
+    let Some(site) = &desk.site else {
+        return Err(Fail::new("no site"));
+    };
+    tells(site, 0, [0, 1, 1, 2, 3])?;
+    ported(site)
+}
+
+// The same links about another root.
+fn turned(heap: Global) -> Result<(), Fail> {
+    let site = build(heap, 5, 4, &SQUARE_AND_TAIL)?;
+    tells(&site, 4, [3, 2, 2, 1, 0])?;
+    ported(&site)
 }
 
 #[test]
 fn five_nodes(rt: LibcRuntime) -> Result<(), Fail> {
     let mut desk = Desk::new(rt.alloc())?;
-    let sheet = b"NODES;5\nLINKS;5\nFAULTS;0\nTURNS;0\n0;1\n0;2\n1;3\n2;3\n3;4\n";
-    check_eq(desk.answer(sheet)?, ACCEPTED)?;
-    match &desk.site {
-        Some(site) => {
-            tells(site, 0, [0, 1, 1, 2, 3])?;
-            ported(site)?;
-        }
-        None => return Err(Fail::new("no site")),
-    }
-    let other = build(rt.alloc(), 5, 4, &SQUARE_AND_TAIL)?;
-    tells(&other, 4, [3, 2, 2, 1, 0])?;
-    ported(&other)
+    let answer = desk.answer(b"NODES;5\nLINKS;5\nFAULTS;0\nTURNS;0\n0;1\n0;2\n1;3\n2;3\n3;4\n")?;
+    check_eq(answer, ACCEPTED)?;
+    told(&desk)?;
+    turned(rt.alloc())
 }
 
 // The number of a refusal, or 0.
@@ -176,32 +181,55 @@ fn started(heap: Global, nodes: usize, root: usize) -> Result<u8, Fail> {
     }
 }
 
-// A declined link leaves the builder as it was.
-fn entered(heap: Global) -> Result<Site, Fail> {
-    let mut builder = SiteBuilder::new(heap, 10, 0)?;
-    for v in 1..9 {
-        check_eq(number(builder.enter(0, v)), 0)?;
+// What the room answers to numbers of nodes and roots.
+static STARTS: [(usize, usize, u8); 5] = [
+    (0, 0, 2),
+    (257, 0, 2),
+    (0, 5, 2),
+    (3, 3, 8),
+    (256, 255, 0),
+];
+
+// What a builder of ten nodes answers to links, one after the other.
+static ENTERED: [(usize, usize, u8); 13] = [
+    (0, 1, 0),
+    (0, 2, 0),
+    (0, 3, 0),
+    (0, 4, 0),
+    (0, 5, 0),
+    (0, 6, 0),
+    (0, 7, 0),
+    (0, 8, 0),
+    (0, 9, 5),
+    (0, 8, 4),
+    (9, 0, 3),
+    (0, 10, 3),
+    (8, 9, 0),
+];
+
+fn enter_all(builder: &mut SiteBuilder) -> Result<(), Fail> {
+    for (a, b, expected) in &ENTERED {
+        check_eq(number(builder.enter(*a, *b)), *expected)?;
     }
-    check_eq(number(builder.enter(0, 9)), 5)?;
-    check_eq(number(builder.enter(0, 8)), 4)?;
-    check_eq(number(builder.enter(9, 0)), 3)?;
-    check_eq(number(builder.enter(0, 10)), 3)?;
-    check_eq(number(builder.enter(8, 9)), 0)?;
-    Ok(builder.finish()?)
+    Ok(())
+}
+
+// A declined link leaves the builder as it was.
+fn entered(heap: Global) -> Result<(), Fail> {
+    let mut builder = SiteBuilder::new(heap, 10, 0)?;
+    enter_all(&mut builder)?;
+    let site = builder.finish()?;
+    check(site.links().len() == 9 && site.height() == 2)?;
+    check_eq(site.distance(9)?, 2)
 }
 
 #[test]
-fn declined(rt: LibcRuntime) -> Result<(), Fail> {
+fn sites_declined(rt: LibcRuntime) -> Result<(), Fail> {
     for (i, plan) in PLANS.iter().enumerate() {
         check_eq(built(rt.alloc(), plan)?, plan.number).note(i)?;
     }
-    check_eq(started(rt.alloc(), 0, 0)?, 2)?;
-    check_eq(started(rt.alloc(), 257, 0)?, 2)?;
-    check_eq(started(rt.alloc(), 0, 5)?, 2)?;
-    check_eq(started(rt.alloc(), 3, 3)?, 8)?;
-    check_eq(started(rt.alloc(), 256, 255)?, 0)?;
-    let site = entered(rt.alloc())?;
-    check_eq(site.links().len(), 9)?;
-    check_eq(site.distance(9)?, 2)?;
-    check_eq(site.height(), 2)
+    for (nodes, root, expected) in &STARTS {
+        check_eq(started(rt.alloc(), *nodes, *root)?, *expected)?;
+    }
+    entered(rt.alloc())
 }

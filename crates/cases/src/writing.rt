@@ -4,9 +4,10 @@ use crate::desk::Answer;
 use crate::desk::AnswerDebug;
 use crate::desk::AnswerPartialEq;
 use crate::desk::Desk;
+use crate::desk::NO_ROOM;
+use crate::desk::contents;
 use crate::desk::fault;
 use crate::desk::link;
-use crate::desk::number;
 use crate::desk::refused;
 use crate::desk::turn;
 use crate::large::largest;
@@ -17,6 +18,9 @@ use site::room::SiteRoom;
 use std::alloc::Global;
 use std::fmt::Write;
 use std::test::*;
+use text::records::FaultLine;
+use text::records::LinkLine;
+use text::records::TurnLine;
 
 /// Contents numbers and lines, and the answer: 0, or the refusal's number, and its line.
 struct Draft {
@@ -233,51 +237,68 @@ static DRAFTS: [Draft; 24] = [
     },
 ];
 
+// Lines of two numbers.
+fn add_pairs(text: &mut String, pairs: &[(u32, u32)]) -> Result<(), Fail> {
+    for (a, b) in pairs {
+        writeln!(text, "{a};{b}")?;
+    }
+    Ok(())
+}
+
+// Lines of one number.
+fn add_numbers(text: &mut String, numbers: &[u32]) -> Result<(), Fail> {
+    for x in numbers {
+        writeln!(text, "{x}")?;
+    }
+    Ok(())
+}
+
 // The text of a draft, written out by the standard library.
 fn text_of(heap: Global, draft: &Draft) -> Result<String, Fail> {
     let [nodes, links, faults, turns] = draft.contents;
-    let mut s = format!(
+    let mut text = format!(
         heap,
         "NODES;{nodes}\nLINKS;{links}\nFAULTS;{faults}\nTURNS;{turns}\n"
     )?;
-    for (a, b) in draft.links {
-        writeln!(s, "{a};{b}")?;
-    }
-    for (register, value) in draft.faults {
-        writeln!(s, "{register};{value}")?;
-    }
-    for node in draft.turns {
-        writeln!(s, "{node}")?;
-    }
-    Ok(s)
+    add_pairs(&mut text, draft.links)?;
+    add_pairs(&mut text, draft.faults)?;
+    add_numbers(&mut text, draft.turns)?;
+    Ok(text)
 }
 
-// Contents numbers.
-fn contents_of(numbers: [u32; 4]) -> Result<Contents, Fail> {
-    let [nodes, links, faults, turns] = numbers;
-    Ok(Contents {
-        nodes: number(nodes)?,
-        links: number(links)?,
-        faults: number(faults)?,
-        turns: number(turns)?,
-    })
+// Links into the first entries.
+fn put_links(list: &mut [LinkLine], links: &[(u32, u32)]) {
+    for (i, (a, b)) in links.iter().enumerate() {
+        if i < list.len() {
+            list[i] = link(*a, *b);
+        }
+    }
+}
+
+// Faults into the first entries.
+fn put_faults(list: &mut [FaultLine], faults: &[(u32, u32)]) {
+    for (i, (register, value)) in faults.iter().enumerate() {
+        if i < list.len() {
+            list[i] = fault(*register, *value);
+        }
+    }
+}
+
+// Turns into the first entries.
+fn put_turns(list: &mut [TurnLine], turns: &[u32]) {
+    for (i, node) in turns.iter().enumerate() {
+        if i < list.len() {
+            list[i] = turn(*node);
+        }
+    }
 }
 
 // Lists whose first entries are the draft's.
 fn lists_of(heap: Global, draft: &Draft) -> Result<Desk, Fail> {
     let mut desk = Desk::new(heap)?;
-    for (i, (a, b)) in draft.links.iter().enumerate() {
-        check(i < desk.links.len())?;
-        desk.links[i] = link(*a, *b)?;
-    }
-    for (i, (register, value)) in draft.faults.iter().enumerate() {
-        check(i < desk.faults.len())?;
-        desk.faults[i] = fault(*register, *value)?;
-    }
-    for (i, node) in draft.turns.iter().enumerate() {
-        check(i < desk.turns.len())?;
-        desk.turns[i] = turn(*node)?;
-    }
+    put_links(&mut desk.links, draft.links);
+    put_faults(&mut desk.faults, draft.faults);
+    put_turns(&mut desk.turns, draft.turns);
     Ok(desk)
 }
 
@@ -290,7 +311,7 @@ fn write(desk: &Desk, ns: Contents, page: &mut [u8]) -> Result<(Answer, usize), 
     }
 }
 
-// On a page of so many dots more (or one fewer) than the text, writing leaves the text and then dots.
+// On a page of so many dots more than the text has bytes, writing leaves the text and then dots.
 fn leaves(desk: &Desk, ns: Contents, text: &[u8], more: usize) -> Result<(), Fail> {
     let mut expected = text.to_vec(desk.heap)?;
     expected.resize(text.len().saturating_add(more), b'.')?;
@@ -312,11 +333,6 @@ fn declines(desk: &Desk, ns: Contents, size: usize, expected: Answer) -> Result<
     Ok(())
 }
 
-const NO_ROOM: Answer = Answer {
-    number: 14,
-    line: 0,
-};
-
 // Writing these lists leaves the text on a page that has room.
 fn fits(desk: &Desk, ns: Contents, text: &[u8]) -> Result<(), Fail> {
     leaves(desk, ns, text, 0)?;
@@ -326,6 +342,28 @@ fn fits(desk: &Desk, ns: Contents, text: &[u8]) -> Result<(), Fail> {
     declines(desk, ns, 0, NO_ROOM)
 }
 
+// Lists that are declined with this answer, whatever the page.
+fn declines_all(desk: &Desk, ns: Contents, expected: Answer) -> Result<(), Fail> {
+    declines(desk, ns, 0, expected)?;
+    declines(desk, ns, 70000, expected)
+}
+
+// What is answered to writing a draft.
+fn judge_written(heap: Global, draft: &Draft, text: &[u8], expected: Answer) -> Result<(), Fail> {
+    let desk = lists_of(heap, draft)?;
+    if expected.number == 0 {
+        fits(&desk, contents(draft.contents), text)
+    } else {
+        declines_all(&desk, contents(draft.contents), expected)
+    }
+}
+
+// What is answered to reading a text.
+fn judge_read(heap: Global, text: &[u8], expected: Answer) -> Result<(), Fail> {
+    let mut desk = Desk::new(heap)?;
+    check_eq(desk.answer(text)?, expected)
+}
+
 // A draft is written and read with one answer.
 fn judge(heap: Global, draft: &Draft) -> Result<(), Fail> {
     let expected = Answer {
@@ -333,58 +371,98 @@ fn judge(heap: Global, draft: &Draft) -> Result<(), Fail> {
         line: draft.line,
     };
     let text = text_of(heap, draft)?;
-    check_eq(Desk::new(heap)?.answer(text.as_bytes())?, expected)?;
-    let desk = lists_of(heap, draft)?;
-    let ns = contents_of(draft.contents)?;
-    if draft.number == 0 {
-        return fits(&desk, ns, text.as_bytes());
-    }
-    declines(&desk, ns, 0, expected)?;
-    declines(&desk, ns, 70000, expected)
+    judge_read(heap, text.as_bytes(), expected)?;
+    judge_written(heap, draft, text.as_bytes(), expected)
+}
+
+// A sheet that is read is written the same.
+fn returns(heap: Global, sheet: &[u8]) -> Result<(), Fail> {
+    let mut desk = Desk::new(heap)?;
+    let (answer, ns) = desk.read(sheet)?;
+    check_eq(answer, ACCEPTED)?;
+    fits(&desk, ns, sheet)
 }
 
 #[test]
-fn drafts(rt: LibcRuntime) -> Result<(), Fail> {
+fn sheets_written(rt: LibcRuntime) -> Result<(), Fail> {
     for (i, draft) in DRAFTS.iter().enumerate() {
         judge(rt.alloc(), draft).note(i)?;
     }
-    Ok(())
+    let sheet = largest(rt.alloc())?;
+    returns(rt.alloc(), sheet.as_bytes())
 }
 
-// Links of which so many are of five bytes, the others of four, each with its line feed; 37 bytes of contents.
-fn many(heap: Global, links: usize, longer: usize) -> Result<Desk, Fail> {
-    let mut desk = Desk::sized(heap, links, 4096, 1024)?;
-    for i in 0..longer {
-        check(i < desk.links.len())?;
-        desk.links[i] = link(7, 10)?;
+/// Lists of so many entries, of which so many links take five bytes and the others four, each with its line feed.
+struct Lent {
+    lists: [usize; 3],
+    longer: usize,
+    contents: [u32; 4],
+    number: u8,
+    line: usize,
+}
+
+// The contents of the first two take 37 bytes: 65,536 in all, and 65,537.
+static LENT: [Lent; 5] = [
+    Lent {
+        lists: [16374, 4096, 1024],
+        longer: 3,
+        contents: [1, 16374, 0, 0],
+        number: 2,
+        line: 2,
+    },
+    Lent {
+        lists: [16374, 4096, 1024],
+        longer: 4,
+        contents: [1, 16374, 0, 0],
+        number: 2,
+        line: 0,
+    },
+    Lent {
+        lists: [1023, 4096, 1024],
+        longer: 0,
+        contents: [0, 0, 0, 0],
+        number: 14,
+        line: 0,
+    },
+    Lent {
+        lists: [1024, 4095, 1024],
+        longer: 0,
+        contents: [1, 0, 0, 0],
+        number: 14,
+        line: 0,
+    },
+    Lent {
+        lists: [1024, 4096, 1023],
+        longer: 0,
+        contents: [0, 0, 0, 0],
+        number: 14,
+        line: 0,
+    },
+];
+
+// Longer links into the first entries.
+fn put_longer(list: &mut [LinkLine], count: usize) {
+    for i in 0..count {
+        if i < list.len() {
+            list[i] = link(7, 10);
+        }
     }
-    Ok(desk)
+}
+
+fn judge_lent(heap: Global, lent: &Lent) -> Result<(), Fail> {
+    let mut desk = Desk::sized(heap, lent.lists[0], lent.lists[1], lent.lists[2])?;
+    put_longer(&mut desk.links, lent.longer);
+    let expected = Answer {
+        number: lent.number,
+        line: lent.line,
+    };
+    declines_all(&desk, contents(lent.contents), expected)
 }
 
 #[test]
-fn written(rt: LibcRuntime) -> Result<(), Fail> {
-    let heap = rt.alloc();
-    let sheet = largest(heap)?;
-    let mut desk = Desk::new(heap)?;
-    match desk.read(sheet.as_bytes())? {
-        Ok(ns) => fits(&desk, ns, sheet.as_bytes())?,
-        Err(answer) => check_eq(answer, ACCEPTED)?,
+fn lists_lent(rt: LibcRuntime) -> Result<(), Fail> {
+    for (i, lent) in LENT.iter().enumerate() {
+        judge_lent(rt.alloc(), lent).note(i)?;
     }
-    let ns = contents_of([1, 16374, 0, 0])?;
-    declines(
-        &many(heap, 16374, 3)?,
-        ns,
-        70000,
-        Answer { number: 2, line: 2 },
-    )?;
-    declines(
-        &many(heap, 16374, 4)?,
-        ns,
-        70000,
-        Answer { number: 2, line: 0 },
-    )?;
-    let none = contents_of([0, 0, 0, 0])?;
-    declines(&Desk::sized(heap, 1023, 4096, 1024)?, none, 70000, NO_ROOM)?;
-    declines(&Desk::sized(heap, 1024, 4095, 1024)?, none, 70000, NO_ROOM)?;
-    declines(&Desk::sized(heap, 1024, 4096, 1023)?, none, 70000, NO_ROOM)
+    Ok(())
 }
