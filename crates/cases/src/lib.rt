@@ -2,6 +2,8 @@
 #[cfg(test)]
 mod desk;
 #[cfg(test)]
+mod drafts;
+#[cfg(test)]
 mod large;
 #[cfg(test)]
 mod lines;

@@ -3,11 +3,11 @@ use crate::desk::Answer;
 use crate::desk::AnswerDebug;
 use crate::desk::AnswerPartialEq;
 use crate::desk::Desk;
-use crate::tables::CONTENTS;
-use crate::tables::FAULTS;
-use crate::tables::LINKS;
-use crate::tables::TURNS;
 use crate::tables::Table;
+use crate::tables::contents::CONTENTS;
+use crate::tables::faults::FAULTS;
+use crate::tables::links::LINKS;
+use crate::tables::turns::TURNS;
 use std::alloc::Global;
 use std::test::*;
 
@@ -40,8 +40,8 @@ fn judge_all(heap: Global, tables: &[Table]) -> Result<(), Fail> {
 
 #[test]
 fn sheets_read(rt: LibcRuntime) -> Result<(), Fail> {
-    for tables in [&CONTENTS[..], &LINKS[..], &FAULTS[..], &TURNS[..]] {
-        judge_all(rt.alloc(), tables)?;
-    }
-    Ok(())
+    judge_all(rt.alloc(), &CONTENTS)?;
+    judge_all(rt.alloc(), &LINKS)?;
+    judge_all(rt.alloc(), &FAULTS)?;
+    judge_all(rt.alloc(), &TURNS)
 }
