@@ -1,0 +1,5 @@
+pub mod Widths
+pub mod Writes
+pub mod Places
+pub mod Fronts
+pub mod Turns
