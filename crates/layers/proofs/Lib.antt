@@ -3,3 +3,4 @@ pub mod Writes
 pub mod Places
 pub mod Fronts
 pub mod Turns
+pub mod Sites

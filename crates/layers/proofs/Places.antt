@@ -43,3 +43,13 @@ module _ (p w : Protocol) (n : ℕ) (whole : w .size ≡ p .size + n) (b o : Lis
     high-set x =
         let e : j ≡ i - p .size = omega arith in
         ap (λ (k : ℕ). b ++ set o k x) e ∙ sym (set-append-right b o (p .size) i x sized (omega arith))
+
+    -- and so they are those of the second, if it is a protocol's
+    module _ (q : Protocol) (rest : q .size ≡ n) where
+      pub high-read : (r : Result ℕ Refusal) → Read q j o r → Read w i (b ++ o) r
+      high-read (Ok x) h = (inside, h .1 ∙ sym high-get)
+      high-read (Err e) h = absurd (omega (arith, h .0))
+
+      pub high-written : (x : ℕ) (r : Result (Unit {0}) Refusal) (d : List ℕ) → Written q j x o r d → Written w i x (b ++ o) r (b ++ d)
+      high-written x (Ok u) d h = (inside, ap (λ (zs : List ℕ). b ++ zs) (h .1) ∙ high-set x)
+      high-written x (Err e) d h = absurd (omega (arith, h .0))
