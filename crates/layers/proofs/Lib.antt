@@ -4,3 +4,7 @@ pub mod Places
 pub mod Fronts
 pub mod Turns
 pub mod Sites
+pub mod Children
+pub mod Counts
+pub mod Changes
+pub mod Ranks

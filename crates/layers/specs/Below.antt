@@ -1,7 +1,7 @@
 -- What a layer knows of the protocol that it stands over, at a site.
 use mathlib.Core.Bool.{cond}
 use mathlib.Core.List.{List, _++_}
-use Prim.Native.Nat.{ℕ, suc, _+_}
+use Prim.Native.Nat.{ℕ, suc, _+_, min}
 use lib.Dec.{eqb}
 use Rattle.std.specs.declared.option.Option.{Option}
 use Rattle.std.specs.declared.option.Option.the-variants.{Some, None}
@@ -24,6 +24,16 @@ told g s m = means g s m .output (g .registers s m)
 -- what u tells, if it tells v as its parent
 abbrev pub child-told : (ℕ → Output) → ℕ → ℕ → Option Output
 child-told t v u = cond (eqb (stored (t u .parent)) (suc v)) (Some (t u)) None
+
+-- the number that goes to a child, of those from `next` on and at most n; 0 for any other node
+abbrev pub number-told : Option Output → ℕ → ℕ → ℕ
+number-told None next n = 0
+number-told (Some o) next n = min n next
+
+-- how many numbers a child takes
+abbrev pub count-told : Option Output → ℕ
+count-told None = 0
+count-told (Some o) = o .count
 
 -- the registers below, and then the first n over them
 abbrev pub all-registers : {X : Type 0} → Ghosts X → Over X → Model → ℕ → List ℕ

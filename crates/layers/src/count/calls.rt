@@ -1,7 +1,9 @@
 //! The calls of Count.
 ghost use mathlib.Core.Path.{_≡_};
 ghost use mathlib.Core.List.{_++_};
-ghost use Prim.Native.Nat.{_+_, min};
+ghost use mathlib.Core.Bool.{cond};
+ghost use Prim.Native.Nat.{_+_, _<_, min, suc};
+ghost use lib.Dec.{eqb};
 ghost use lib.ListN.{replicate};
 ghost use Rattle.std.specs.Vec.{made};
 ghost use Rattle.graph.specs.Model.{Model, Proper};
@@ -9,10 +11,12 @@ ghost use Rattle.site.specs.Sites.{model};
 ghost use Rattle.rounds.specs.Forest.{sumOver};
 ghost use Rattle.protocol.specs.Count.{count as counting};
 ghost use Rattle.protocol.specs.Layers.{children};
+ghost use Rattle.protocol.specs.Outputs.{stored};
 ghost use Rattle.layers.specs.Below.{all-registers, told};
 ghost use Rattle.layers.specs.Owns.{register};
 use super::Count;
 use crate::over::Over;
+use crate::over::calls::child;
 use protocol::Output;
 use refusal::Refusal;
 use silent::Silent;
@@ -39,6 +43,16 @@ fn own_size(site: &Site) -> u32
 }
 
 impl<P: Silent> Count<P> {
+    // the count of u, if u is a child of v
+    fn child_count(&self, site: &Site, u: u16, v: usize) -> u16
+        ensures { λ r. ⌜ (u < model (now (site .entry)) .nodes → r ≡ cond (eqb (stored (told P·Silent (now (self .entry) .layer .below) (model (now (site .entry))) u .parent)) (suc v)) (register (now (self .entry) .layer .own) u) 0) ⌝ }
+    {
+        match child(&self.layer.below, site, u, v) {
+            Some(_) => self.layer.own.at(u as usize),
+            None => 0,
+        }
+    }
+
     // 1 for a node itself and the counts of its children, at most the number of nodes
     fn new_count(&self, site: &Site, v: usize) -> u16
         ensures { λ r. ⌜ r ≡ min (model (now (site .entry)) .nodes) (1 + sumOver (register (now (self .entry) .layer .own)) (children (model (now (site .entry))) (told P·Silent (now (self .entry) .layer .below) (model (now (site .entry)))) v)) ⌝ }
@@ -47,9 +61,7 @@ impl<P: Silent> Count<P> {
         let ports = site.ports(v);
         let mut sum = 1;
         for u in ports {
-            if let Some(_) = self.layer.child(site, *u, v) {
-                sum = (sum + self.layer.own.at(*u as usize) as u32).min(n);
-            }
+            sum = (sum + self.child_count(site, *u, v) as u32).min(n);
         }
         sum as u16
     }

@@ -1,15 +1,16 @@
 //! What layers answer alike.
 ghost use mathlib.Core.Path.{_≡_};
-ghost use Prim.Native.Nat.{_+_, _<_, min, suc};
+ghost use mathlib.Core.List.{_++_};
+ghost use Prim.Native.Nat.{ℕ, _+_, _<_, _≤_, min, suc};
 ghost use lib.Dec.{eqb};
 ghost use lib.ListN.{replicate};
 ghost use Rattle.std.specs.Vec.{made};
+ghost use Rattle.graph.specs.Model.{Model};
 ghost use Rattle.site.specs.Sites.{model};
 ghost use Rattle.protocol.specs.Outputs.{stored};
 ghost use Rattle.protocol.specs.Protocols.{bound-clip, told-size};
 ghost use Rattle.silent.specs.Answers.{Read, Written};
 ghost use Rattle.layers.specs.Below.{all-registers, child-told, means, told, wider};
-ghost use Rattle.layers.specs.Owns.{held};
 use super::Over;
 use crate::own::Own;
 use protocol::Output;
@@ -28,7 +29,8 @@ pub const BOUND_CLIP: u64 = 1000001;
 impl<P: Silent + Drop> Over<P> {
     /// A protocol, and registers over it that are all 0.
     pub fn new(heap: Global, below: P) -> Result<Over<P>, AllocError>
-        ensures { λ r. ⌜ made r (λ s. (s .below ≡ below) × (held (s .own) ≡ replicate 2304 0)) ⌝ }
+        ensures plan { λ r. ⌜ made r (λ s. P·Silent .plan (s .below) ≡ P·Silent .plan below) ⌝ }
+        ensures registers { λ r. ⌜ made r (λ s. (m : Model) (n : ℕ) → n ≤ 2304 → all-registers P·Silent s m n ≡ P·Silent .registers below m ++ replicate n 0) ⌝ }
     {
         let own = Own::new(heap)?;
         Ok(Over { below, own })
@@ -80,16 +82,6 @@ impl<P: Silent> Over<P> {
         let rounds = self.below.bound(site) as u64 + self.below.height(site) as u64 + 1;
         rounds.min(BOUND_CLIP) as u32
     }
-
-    /// What a node tells below, if it tells v as its parent.
-    pub fn child(&self, site: &Site, u: u16, v: usize) -> Option<Output>
-        ensures { λ r. ⌜ (u < model (now (site .entry)) .nodes → r ≡ child-told (told P·Silent (now (self .entry) .below) (model (now (site .entry)))) v u) ⌝ }
-    {
-        match self.below.output(site, u as usize) {
-            Ok(output) if has_parent(output, v) => Some(output),
-            _ => None,
-        }
-    }
 }
 
 // whether an output has v as its parent
@@ -99,5 +91,15 @@ fn has_parent(output: Output, v: usize) -> bool
     match output.parent {
         Some(w) => w as usize == v,
         None => false,
+    }
+}
+
+/// What a node tells, if it tells v as its parent.
+pub fn child<P: Silent>(below: &P, site: &Site, u: u16, v: usize) -> Option<Output>
+    ensures { λ r. ⌜ (u < model (now (site .entry)) .nodes → r ≡ child-told (told P·Silent (now (below .entry)) (model (now (site .entry)))) v u) ⌝ }
+{
+    match below.output(site, u as usize) {
+        Ok(output) if has_parent(output, v) => Some(output),
+        _ => None,
     }
 }
