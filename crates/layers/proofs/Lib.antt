@@ -8,3 +8,4 @@ pub mod Children
 pub mod Counts
 pub mod Changes
 pub mod Ranks
+pub mod RankTurns

@@ -1,5 +1,5 @@
--- Writes to the slots of a node, one after the other, and the rule of Rank.
-use mathlib.Core.Path.{_≡_, refl, sym, ap, ap₂, subst, _∙_}
+-- A node's slots, one after the other: where they stand, what is written there, and a rank by the parent's.
+use mathlib.Core.Path.{_≡_, refl, sym, ap, ap₂, _∙_}
 use mathlib.Core.Logic.{inl, inr}
 use mathlib.Core.Bool.{Bool, true, false, cond}
 use mathlib.Core.List.{List, [], _∷_}
@@ -9,25 +9,16 @@ use lib.Dec.{eqb}
 use lib.ListN.{length, getD, set, take, drop}
 use Rattle.std.specs.declared.option.Option.{Option}
 use Rattle.std.specs.declared.option.Option.the-variants.{Some, None}
-use Rattle.std.proofs.shelf.Lists.{at-drop-more, at-drop-all, drop-set-lt, getD-take}
+use Rattle.std.proofs.shelf.Lists.{at-drop-more, at-drop-all, getD-take}
 use Rattle.std.proofs.shelf.Tests.{cond-true, cond-false, eq-eqb, ne-eqb}
 use Rattle.std.proofs.shelf.Ways.{eqb-tells}
 use Rattle.lists.specs.Members.{Among}
-use Rattle.graph.specs.Model.{Model, Proper, ports, arcs, arcs-before}
+use Rattle.graph.specs.Model.{Model, Proper, ports, arcs}
 use Rattle.graph.proofs.Drawn.{ports-few}
 use Rattle.protocol.specs.declared.Output.{Output}
 use Rattle.protocol.specs.Outputs.{stored}
-use Rattle.protocol.specs.Rank.{port-to, put, rank-from, ranker, slot, slots}
-use Rattle.layers.proofs.Writes.{take-set-in}
+use Rattle.protocol.specs.Rank.{port-to, put, rank-from, slot, slots}
 use Rattle.layers.proofs.Sites.{room, before-few, slot-inside}
-
-pub take-put : (n : ℕ) (ys xs : List ℕ) (i : ℕ) → take n (put xs i ys) ≡ put (take n xs) i ys
-take-put n [] xs i = refl
-take-put n (y ∷ ys) xs i = take-put n ys (set xs i y) (suc i) ∙ ap (λ (zs : List ℕ). put zs (suc i) ys) (take-set-in n xs i y)
-
-pub drop-put : (n : ℕ) (ys xs : List ℕ) (i : ℕ) → i + length ys ≤ n → drop n (put xs i ys) ≡ drop n xs
-drop-put n [] xs i l = refl
-drop-put n (y ∷ ys) xs i l = drop-put n ys (set xs i y) (suc i) (omega arith) ∙ drop-set-lt n xs i y (omega arith)
 
 -- the port that leads to v is looked for from the first on
 module _ (v : ℕ) (ps : List ℕ) (j : ℕ) (inv : port-to v ps ≡ j + port-to v (drop j ps)) where
@@ -105,15 +96,3 @@ module _ (m : Model) (ok : Proper m) (v : ℕ) (xs : List ℕ) (o : Option ℕ) 
       q
       ∙ ap (min (m .nodes)) (sym (getD-take (m .nodes + arcs m) xs (slot m w v) 0 (slot-inside m ok v w h)))
       ∙ sym (ap (λ (z : Option ℕ). rank-from m z v (take (m .nodes + arcs m) xs)) e)
-
--- a write of the rank, and then of the slots, is the rule on the registers of nodes and arcs
-pub rank-own :
-    (m : Model) (t : ℕ → Output) (v r : ℕ) (xs ys zs : List ℕ) → r ≡ rank-from m (t v .parent) v (take (m .nodes + arcs m) xs) → ys ≡ set xs v r
-    → zs ≡ put ys (m .nodes + arcs-before m v) (slots (m .nodes) t v (r + 1) (ports m v)) → take (m .nodes + arcs m) zs ≡ ranker m .rule t v (take (m .nodes + arcs m) xs)
-rank-own m t v r xs ys zs e w f =
-    let n = m .nodes + arcs m in
-    let i = m .nodes + arcs-before m v in
-    ap (take n) f
-    ∙ take-put n (slots (m .nodes) t v (r + 1) (ports m v)) ys i
-    ∙ ap (λ (us : List ℕ). put us i (slots (m .nodes) t v (r + 1) (ports m v))) (ap (take n) w ∙ take-set-in n xs v r)
-    ∙ ap (λ (z : ℕ). put (set (take n xs) v z) i (slots (m .nodes) t v (z + 1) (ports m v))) e
