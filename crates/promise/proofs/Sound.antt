@@ -24,10 +24,13 @@ use Rattle.promise.specs.History.{Event, turned, drawn, faulted, held, release
 use Rattle.promise.specs.Promise.{Run}
 
 pub below : (v n : ℕ) → (n ≤ v → ⊥) → v < n
-below v n no = elim (cases-lt v n) [ inl l ↦ l | inr l ↦ absurd (no l) ]
+below v n never = elim (cases-lt v n) [ inl l ↦ l | inr l ↦ absurd (never l) ]
+
+pub unless : (v n : ℕ) → (v < n → ⊥) → n ≤ v
+unless v n never = elim (cases-lt v n) [ inl l ↦ absurd (never l) | inr l ↦ l ]
 
 pub equal : (x y : ℕ) → ((x ≡ y → ⊥) → ⊥) → x ≡ y
-equal x y no = elim (cases-eq x y) [ inl e ↦ e | inr e ↦ absurd (no e) ]
+equal x y never = elim (cases-eq x y) [ inl e ↦ e | inr e ↦ absurd (never e) ]
 
 -- the net a after the turns ts from the registers xs
 pub record Core (m : Model) (p : Protocol) (xs ts : List ℕ) (own : ℕ) (opened : Bool) (a : State) : Type 0 where
@@ -119,10 +122,10 @@ module _ (m : Model) (p : Protocol) (some : 0 < m .nodes) (laws : Laws m p) wher
   Sound regs own h a = Core m p (left p regs h) (since h) own (is-held h) a × Fair (m .nodes) h
 
   sound-turned : (regs : List ℕ) (own : ℕ) (h : List Event) (a z : State) (v : ℕ) (b : Bool) → Sound regs own h a → v < m .nodes → (turn-budget ≤ a .turns → ⊥) → Turned m p a v b z → Core m p (left p regs h) (since h ++ (v ∷ [])) own (is-held h) z
-  sound-turned regs own h a z v b s l no t = core-turned (left p regs h) (since h) own (is-held h) a z v b (s .0) l (below (a .turns) turn-budget no) t
+  sound-turned regs own h a z v b s l never t = core-turned (left p regs h) (since h) own (is-held h) a z v b (s .0) l (below (a .turns) turn-budget never) t
 
   sound-faulted : (regs : List ℕ) (own : ℕ) (h : List Event) (a z : State) (i x : ℕ) → Sound regs own h a → (65535 < x → ⊥) → Faulted m a i x z → Sound regs own (faulted i x ∷ h) z
-  sound-faulted regs own h a z i x s no t = (core-fresh (set (registers p regs h) i x) own (is-held h) z (length-set (registers p regs h) i x ∙ now .0, all-set (registers p regs h) i x (elim (cases-lt 65535 x) [ inl l ↦ absurd (no l) | inr l ↦ omega arith ]) (now .1)) (t .registers ∙ ap (λ q. set q i x) (s .0 .registers ∙ sym (ran p regs h))) (t .fresh) (t .mark ∙ s .0 .mark) (t .held ∙ s .0 .held), s .1)
+  sound-faulted regs own h a z i x s never t = (core-fresh (set (registers p regs h) i x) own (is-held h) z (length-set (registers p regs h) i x ∙ now .0, all-set (registers p regs h) i x (let l = unless 65535 x never in omega arith) (now .1)) (t .registers ∙ ap (λ q. set q i x) (s .0 .registers ∙ sym (ran p regs h))) (t .fresh) (t .mark ∙ s .0 .mark) (t .held ∙ s .0 .held), s .1)
     where
       now : Registers (p .size) (registers p regs h)
       now = subst (Registers (p .size)) (sym (ran p regs h)) (sized-run (since h) (left p regs h) (s .0 .nodes) (s .0 .sized))
