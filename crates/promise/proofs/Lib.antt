@@ -4,3 +4,6 @@ pub mod Right
 pub mod Rests
 pub mod Patient
 pub mod PromiseLaws
+pub mod Answered
+pub mod FirmLaws
+pub mod CasesLaws

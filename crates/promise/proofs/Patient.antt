@@ -10,16 +10,16 @@ use Rattle.lists.specs.Members.{Among}
 use Rattle.lists.proofs.Elements.{among-append-left, among-push}
 use Rattle.rounds.specs.Rounds.{Completes, Blocks}
 use Rattle.rounds.proofs.RoundsLaws.{blocks, completes-fewer, exists, monotone}
-use Rattle.promise.specs.Nets.{Daemon, Dues, Asked}
+use Rattle.promise.specs.Nets.{Daemon, Timely, Asked}
 use Rattle.promise.specs.History.{Event, turned, drawn, faulted, held, released, since, Draws, first, other, next}
 use Rattle.promise.proofs.Sound.{Fair}
 
 -- j draws of a daemon of patience w, which stands as d: whole blocks of w, in each of which every node has a turn,
 -- and `more` draws since; a node with no turn since is due before w are done
 record Drew (n w : ℕ) (d : Daemon) (j : ℕ) (ts : List ℕ) : Type 0 where
-  count : d .count ≡ n
+  nodes : d .nodes ≡ n
   patience : d .patience ≡ w
-  dues : Dues d
+  timely : Timely d
   whole : ℕ
   more : ℕ
   front : List ℕ
@@ -36,9 +36,9 @@ pushed front back ts v e = sym (append-assoc front back (v ∷ [])) ∙ ap (λ q
 -- a turn that is no draw of it
 drew-other : (n w : ℕ) (d : Daemon) (j : ℕ) (ts : List ℕ) (v : ℕ) → Drew n w d j ts → Drew n w d j (ts ++ (v ∷ []))
 drew-other n w d j ts v c = record {
-  count = c .count;
+  nodes = c .nodes;
   patience = c .patience;
-  dues = c .dues;
+  timely = c .timely;
   whole = c .whole;
   more = c .more;
   front = c .front;
@@ -55,13 +55,13 @@ drew-next : (n w : ℕ) (d y : Daemon) (j : ℕ) (ts : List ℕ) (v : ℕ) → D
 drew-next n w d y j ts v c a = elim (cases-lt (suc (c .more)) w) [ inl l ↦ part l | inr l ↦ full l ]
   where
     waits : (u : ℕ) → u < n → Among u (c .back ++ (v ∷ [])) ⊎ (y .due u + suc (c .more) ≤ w)
-    waits u l = elim (cases-eq u v) [ inl e ↦ inl (subst (λ q. Among q (c .back ++ (v ∷ []))) (sym e) (among-push v (c .back))) | inr e ↦ elim (c .waits u l) [ inl i ↦ inl (among-append-left u (c .back) (v ∷ []) i) | inr i ↦ inr (let f = a .falls u (let q = c .count in omega arith) e in omega arith) ] ]
+    waits u l = elim (cases-eq u v) [ inl e ↦ inl (subst (λ q. Among q (c .back ++ (v ∷ []))) (sym e) (among-push v (c .back))) | inr e ↦ elim (c .waits u l) [ inl i ↦ inl (among-append-left u (c .back) (v ∷ []) i) | inr i ↦ inr (let f = a .falls u (let q = c .nodes in omega arith) e in omega arith) ] ]
 
     part : suc (c .more) < w → Drew n w y (suc j) (ts ++ (v ∷ []))
     part l = record {
-      count = a .count ∙ c .count;
+      nodes = a .nodes ∙ c .nodes;
       patience = a .patience ∙ c .patience;
-      dues = a .after;
+      timely = a .timely;
       whole = c .whole;
       more = suc (c .more);
       front = c .front;
@@ -74,13 +74,13 @@ drew-next n w d y j ts v c a = elim (cases-lt (suc (c .more)) w) [ inl l ↦ par
     }
 
     due : (u : ℕ) → u < n → (1 ≤ y .due u) × (y .due u ≤ y .patience)
-    due u l = a .after u (let q = c .count in let e = a .count in omega arith)
+    due u l = a .timely u (let q = c .nodes in let e = a .nodes in omega arith)
 
     full : w ≤ suc (c .more) → Drew n w y (suc j) (ts ++ (v ∷ []))
     full l = record {
-      count = a .count ∙ c .count;
+      nodes = a .nodes ∙ c .nodes;
       patience = a .patience ∙ c .patience;
-      dues = a .after;
+      timely = a .timely;
       whole = suc (c .whole);
       more = 0;
       front = ts ++ (v ∷ []);
@@ -92,11 +92,11 @@ drew-next n w d y j ts v c a = elim (cases-lt (suc (c .more)) w) [ inl l ↦ par
       waits = λ u i. inr (let q = due u i .1 in let e = a .patience in let f = c .patience in omega arith);
     }
 
-drew : (n w : ℕ) (d : Daemon) (j : ℕ) (h : List Event) → 0 < n → Draws d j h → d .count ≡ n → d .patience ≡ w → Fair n h → Drew n w d j (since h)
+drew : (n w : ℕ) (d : Daemon) (j : ℕ) (h : List Event) → 0 < n → Draws d j h → d .nodes ≡ n → d .patience ≡ w → Fair n h → Drew n w d j (since h)
 drew n w d j h some (first o q) e i f = record {
-  count = e;
+  nodes = e;
   patience = i;
-  dues = q;
+  timely = q;
   whole = 0;
   more = 0;
   front = [];
@@ -115,17 +115,17 @@ drew n w d j h some (other released x c) e i f = drew n w d j _ some c e i f
 drew n w y j h some (next {d = d} {j = k} v c) e i f = drew-next n w d y k _ v (drew n w d k _ some c (f .0) (sym (f .1 .patience) ∙ i) (f .2)) (f .1)
 
 -- of a daemon for another number of nodes no draw is accepted
-idle : (n : ℕ) (d : Daemon) (j : ℕ) (h : List Event) → Draws d j h → (d .count ≡ n → ⊥) → Fair n h → (j ≡ 0) × (0 < d .patience)
+idle : (n : ℕ) (d : Daemon) (j : ℕ) (h : List Event) → Draws d j h → (d .nodes ≡ n → ⊥) → Fair n h → (j ≡ 0) × (0 < d .patience)
 idle n d j h (first o q) e f = (refl, let t = q 0 o in omega arith)
 idle n d j h (other (turned v) x c) e f = idle n d j _ c e f
 idle n d j h (other (drawn b v y) x c) e f = idle n d j _ c e (f .2)
 idle n d j h (other (faulted k y) x c) e f = absurd x
 idle n d j h (other held x c) e f = idle n d j _ c e f
 idle n d j h (other released x c) e f = idle n d j _ c e f
-idle n y j h (next v c) e f = absurd (e (f .1 .count ∙ f .0))
+idle n y j h (next v c) e f = absurd (e (f .1 .nodes ∙ f .0))
 
 pub drawn-rounds : (n b : ℕ) (d : Daemon) (j : ℕ) (h : List Event) → 0 < n → Draws d j h → Fair n h → d .patience * b ≤ j → Completes n b (since h)
-drawn-rounds n b d j h some c f l = elim (cases-eq (d .count) n) [ inl e ↦ reached (drew n (d .patience) d j h some c e refl f) | inr e ↦ none (idle n d j h c e f) ]
+drawn-rounds n b d j h some c f l = elim (cases-eq (d .nodes) n) [ inl e ↦ reached (drew n (d .patience) d j h some c e refl f) | inr e ↦ none (idle n d j h c e f) ]
   where
     none : (j ≡ 0) × (0 < d .patience) → Completes n b (since h)
     none t = let x = exists n (since h) some in (x .0, x .1, (let q = mul-le-mul-right b (t .1) in let z = one-mul b in let e = t .0 in omega arith), x .2)

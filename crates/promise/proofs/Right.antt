@@ -89,7 +89,7 @@ module _ (m : Model) (p : Protocol) (some : 0 < m .nodes) (laws : Laws m p) (reg
   pub right : (z : State) (c : Call) (r : Answer c) → Step m p a c r z → Right m p regs own h c r
   right z (turn v) (Ok b) t = (freed (turn v) (t .0), says z v b (t .1))
   right z (turn v) (Err e) t = declined (turn v) e (t .0)
-  right z (draw d y) (Ok u) t = ((freed (draw d y) (t .0), ((let e = equal (d .count) (m .nodes) (t .0 .0) in let l = t .1 .node in omega arith), says z (u .node) (u .changed) (t .2))), t .1)
+  right z (draw d y) (Ok u) t = ((freed (draw d y) (t .0), ((let e = equal (d .nodes) (m .nodes) (t .0 .0) in let l = t .1 .named in omega arith), says z (u .node) (u .changed) (t .2))), t .1)
   right z (draw d y) (Err e) t = (declined (draw d y) e (t .0), t .1)
   right z (fault i x) (Ok u) t = (freed (fault i x) (t .0), tt)
   right z (fault i x) (Err e) t = declined (fault i x) e (t .0)

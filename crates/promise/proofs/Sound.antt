@@ -48,7 +48,7 @@ pub record Core (m : Model) (p : Protocol) (xs ts : List ℕ) (own : ℕ) (opene
 abbrev pub Fair : ℕ → List Event → Type 0
 Fair n [] = Unit {0}
 Fair n (turned v ∷ h) = Fair n h
-Fair n (drawn d v y ∷ h) = (d .count ≡ n) × Asked d v y × Fair n h
+Fair n (drawn d v y ∷ h) = (d .nodes ≡ n) × Asked d v y × Fair n h
 Fair n (faulted i x ∷ h) = Fair n h
 Fair n (held ∷ h) = Fair n h
 Fair n (released ∷ h) = Fair n h
@@ -133,7 +133,7 @@ module _ (m : Model) (p : Protocol) (some : 0 < m .nodes) (laws : Laws m p) wher
   sound-step : (regs : List ℕ) (own : ℕ) (h : List Event) (a z : State) (c : Call) (r : Answer c) → Sound regs own h a → Step m p a c r z → Sound regs own (events c r ++ h) z
   sound-step regs own h a z (turn v) (Ok b) s t = (sound-turned regs own h a z v b s (below v (m .nodes) (t .0 .0)) (t .0 .1 .0) (t .1), s .1)
   sound-step regs own h a z (turn v) (Err e) s t = subst (Sound regs own h) (sym (t .1)) s
-  sound-step regs own h a z (draw d y) (Ok u) s t = (sound-turned regs own h a z (u .node) (u .changed) s (let e = equal (d .count) (m .nodes) (t .0 .0) in let l = t .1 .node in omega arith) (t .0 .1 .0) (t .2), (equal (d .count) (m .nodes) (t .0 .0), t .1, s .1))
+  sound-step regs own h a z (draw d y) (Ok u) s t = (sound-turned regs own h a z (u .node) (u .changed) s (let e = equal (d .nodes) (m .nodes) (t .0 .0) in let l = t .1 .named in omega arith) (t .0 .1 .0) (t .2), (equal (d .nodes) (m .nodes) (t .0 .0), t .1, s .1))
   sound-step regs own h a z (draw d y) (Err e) s t = subst (Sound regs own h) (sym (t .2)) s
   sound-step regs own h a z (fault i x) (Ok u) s t = sound-faulted regs own h a z i x s (t .0 .0) (t .1)
   sound-step regs own h a z (fault i x) (Err e) s t = subst (Sound regs own h) (sym (t .1)) s

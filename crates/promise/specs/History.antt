@@ -10,7 +10,7 @@ use Rattle.rounds.specs.Rounds.{Splits}
 use Rattle.rounds.specs.Forest.{Counted}
 use Rattle.graph.specs.Model.{Model}
 use Rattle.protocol.specs.Protocols.{Protocol, turn-budget, told-bound}
-use Rattle.promise.specs.Nets.{Daemon, Dues, Call, turn, draw, fault, ask, ask-held, read, tell, hold, lift, cancel, Answer, Standing}
+use Rattle.promise.specs.Nets.{Daemon, Timely, Call, turn, draw, fault, ask, ask-held, read, tell, hold, lift, cancel, Answer, Standing}
 
 -- an accepted call that does something: drawn d v y by the daemon d, which named v and became y
 pub data Event : Type 0 where
@@ -114,6 +114,6 @@ standing-after m p own h = record { Spent = turn-budget ≤ length (since h); Be
 
 -- a daemon stands as d now, this net alone has asked it since a time when its dues held, no fault came since, and j of its draws were accepted
 pub data Draws : Daemon → ℕ → List Event → Type 0 where
-  first : {d : Daemon} {h : List Event} → 0 < d .count → Dues d → Draws d 0 h
+  first : {d : Daemon} {h : List Event} → 0 < d .nodes → Timely d → Draws d 0 h
   other : {d : Daemon} {j : ℕ} {h : List Event} → (e : Event) → Calm (e ∷ []) → Draws d j h → Draws d j (e ∷ h)
   next : {d y : Daemon} {j : ℕ} {h : List Event} → (v : ℕ) → Draws d j h → Draws y (suc j) (drawn d v y ∷ h)

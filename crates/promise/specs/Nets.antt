@@ -12,6 +12,7 @@ use Rattle.refusal.specs.declared.Refusal.the-variants.{Limit, Place, Node, Exh
 use Rattle.refusal.specs.Checks.{Checks, First, Free}
 use Rattle.graph.specs.Model.{Model}
 use Rattle.rounds.specs.Marks.{countMarked, Counts}
+use Rattle.rounds.specs.Patience.{DueWithin}
 use Rattle.protocol.specs.declared.Output.{Output}
 use Rattle.protocol.specs.Protocols.{Protocol, Registers, turn-budget, told-bound, told-size}
 use Rattle.promise.specs.declared.Drawn.{Drawn}
@@ -30,22 +31,21 @@ pub record State : Type 0 where
 
 -- a daemon as it stands: for how many nodes it is made, its patience, and within how many askings it names each
 pub record Daemon : Type 0 where
-  pub count : ℕ
+  pub nodes : ℕ
   pub patience : ℕ
   pub due : ℕ → ℕ
 
 -- every due is 1 to the patience
-abbrev pub Dues : Daemon → Type 0
-Dues d = (v : ℕ) → v < d .count → (1 ≤ d .due v) × (d .due v ≤ d .patience)
+abbrev pub Timely : Daemon → Type 0
+Timely d = DueWithin (d .nodes) (d .patience) (d .due)
 
 -- asked, d names v and becomes y: the due of every other node falls
 pub record Asked (d : Daemon) (v : ℕ) (y : Daemon) : Type 0 where
-  pub before : Dues d
-  pub node : v < d .count
-  pub count : y .count ≡ d .count
+  pub named : v < d .nodes
+  pub nodes : y .nodes ≡ d .nodes
   pub patience : y .patience ≡ d .patience
-  pub after : Dues y
-  pub falls : (w : ℕ) → w < d .count → (w ≡ v → ⊥) → y .due w < d .due w
+  pub falls : (u : ℕ) → u < d .nodes → (u ≡ v → ⊥) → y .due u < d .due u
+  pub timely : Timely y
 
 -- what a lift or a cancel is asked with
 pub record Hold : Type 0 where
@@ -102,7 +102,7 @@ pub record Standing : Type 1 where
 -- the refusals of each call, in their order
 abbrev pub checks : Model → Protocol → Standing → Call → Checks
 checks m p s (turn v) = (Node, m .nodes ≤ v) ∷ (Exhausted, s .Spent) ∷ []
-checks m p s (draw d y) = (Mismatch, (d .count ≡ m .nodes → ⊥)) ∷ (Exhausted, s .Spent) ∷ []
+checks m p s (draw d y) = (Mismatch, (d .nodes ≡ m .nodes → ⊥)) ∷ (Exhausted, s .Spent) ∷ []
 checks m p s (fault i x) = (Limit, 65535 < x) ∷ (Place, told-size p ≤ i) ∷ []
 checks m p s (ask q) = []
 checks m p s ask-held = []
