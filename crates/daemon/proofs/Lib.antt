@@ -1,0 +1,4 @@
+pub mod AskingsLaws
+mod Waits
+mod ScriptSound
+mod OrdersLaws

@@ -1,0 +1,5 @@
+pub mod Dues
+pub mod RoundRobins
+pub mod ScriptChecks
+pub mod Scripts
+pub mod Orders
