@@ -8,7 +8,7 @@ use Rattle.graph.proofs.Drawn.{arcs-are}
 use Rattle.rounds.specs.Preorder.{Rooted}
 use Rattle.rounds.specs.Rounds.{Completes}
 use Rattle.rounds.specs.Runs.{run, Below}
-use Rattle.rounds.proofs.RankLaws.{rank-place, rank-each}
+use Rattle.rounds.proofs.RankRules.{rank-place, rank-each}
 use Rattle.rounds.proofs.RunsLaws.{kept-run}
 use Rattle.protocol.specs.declared.Output.{Output}
 use Rattle.protocol.specs.Outputs.{stored, with-mate}

@@ -1,5 +1,6 @@
 //! A finished site.
 ghost use mathlib.Core.Path.{_≡_};
+ghost use Prim.Native.Nat.{_≤_};
 ghost use Rattle.std.specs.Of.Vec.{vec-items, vec-len};
 ghost use Rattle.graph.specs.Model.{Proper};
 ghost use Rattle.site.specs.Kept.{Measured, Numbered, Highest};
@@ -19,6 +20,8 @@ pub struct Site {
     pub(crate) first_arcs: Vec<u16>,
     pub(crate) distances: Vec<u16>,
     ghost proper: { ∥ Proper (site-of (vec-len nodes) root (vec-items links)) ∥₁ },
+    ghost some: { 1 ≤ vec-len nodes },
+    ghost few: { vec-len nodes ≤ 256 },
     ghost roomy: { Roomy (vec-items nodes) (vec-len nodes) },
     ghost table: { Table (vec-items nodes) (vec-len nodes) (vec-items links) },
     ghost arced: { vec-len «first_arcs» ≡ vec-len nodes },

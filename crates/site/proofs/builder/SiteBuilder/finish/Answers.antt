@@ -69,7 +69,8 @@ ghost-result c =
     let arcs = numbered s (c .deref-3 .result .now) (c .number-arcs .last .first-arcs) _ (c .deref-3 .ensures .value) (c .number-arcs .ensures) (refilled-is (s .«first_arcs») (c .number-arcs .last .first-arcs) k) in
     let measured = subst (Measured m) (d .deref-2 .ensures .value) (all-measured m (drawn s) es top (length-marks d) (marks d) most taken low) in
     let highest = top-height m (drawn s) es top (length-marks d) (marks d) most taken low in
-    (∣ proper ∣₁, (s .roomy, (s .table, (s .arced, (s .spaced, (arcs, (measured, (highest, tt))))))))
+    let d0 = drawn s in
+    (∣ proper ∣₁, (d0 .some, (d0 .limit, (s .roomy, (s .table, (s .arced, (s .spaced, (arcs, (measured, (highest, tt))))))))))
 
 pub returns : need.returns
 returns c =

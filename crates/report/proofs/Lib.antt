@@ -1,0 +1,2 @@
+pub mod LineLow
+pub mod Told

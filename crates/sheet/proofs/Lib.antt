@@ -1,0 +1,13 @@
+pub mod Bodies
+pub mod Stops
+pub mod Forms
+pub mod Single
+pub mod Heads
+pub mod Judgement
+pub mod Exactly
+pub mod Outcomes
+pub mod Checked
+pub mod Proper
+pub mod Linking
+pub mod Names
+pub mod Written
