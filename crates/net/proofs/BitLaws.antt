@@ -47,8 +47,8 @@ pow-apart k i ne =
     ⊎-elim
     (λ (e : i ≡ k). absurd (ne e))
     (⊎-elim
-      (λ (lt : i < k). let e : k ≡ suc (k - i - 1) + i = omega arith in ap (λ (z : ℕ). 2 ^ z / 2 ^ i % 2) e ∙ pow-below (k - i - 1) i)
-      (λ (gt : k < i). pow-above k i gt))
+    (λ (lt : i < k). let e : k ≡ suc (k - i - 1) + i = omega arith in ap (λ (z : ℕ). 2 ^ z / 2 ^ i % 2) e ∙ pow-below (k - i - 1) i)
+    (λ (gt : k < i). pow-above k i gt))
     (cases-order i k)
 
 pub bit-same : (x k : ℕ) → bit (bitOr x (2 ^ k)) k ≡ true
@@ -81,11 +81,11 @@ add-bit ws v w lt =
     ⊎-elim
     (λ (e : w ≡ v). rw (e, eq-eqb v v refl, getD-set-same ws (v / 64) y 0 lt) (bit-same (getD ws (v / 64) 0) (v % 64)))
     (λ (ne : w ≡ v → ⊥).
-      rw (ne-eqb w v ne)
-      (⊎-elim
-        (λ (q : w / 64 ≡ v / 64). rw (q, getD-set-same ws (v / 64) y 0 lt) (bit-other (getD ws (v / 64) 0) (v % 64) (w % 64) (λ r. ne (omega arith))))
-        (λ (q : w / 64 ≡ v / 64 → ⊥). rw (getD-set-other ws (v / 64) (w / 64) y 0 q) refl)
-        (cases-eq (w / 64) (v / 64))))
+    rw (ne-eqb w v ne)
+    (⊎-elim
+    (λ (q : w / 64 ≡ v / 64). rw (q, getD-set-same ws (v / 64) y 0 lt) (bit-other (getD ws (v / 64) 0) (v % 64) (w % 64) (λ r. ne (omega arith))))
+    (λ (q : w / 64 ≡ v / 64 → ⊥). rw (getD-set-other ws (v / 64) (w / 64) y 0 q) refl)
+    (cases-eq (w / 64) (v / 64))))
     (cases-eq w v)
 
 pub shifted : (k : ℕ) → k < 64 → (1 * 2 ^ k) % 18446744073709551616 ≡ 2 ^ k

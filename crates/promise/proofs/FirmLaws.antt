@@ -69,15 +69,18 @@ module _ (m : Model) (p : Protocol) where
   }
 
   same-turned : (a : State) (v : ℕ) (b c : Bool) (y z : State) → Turned m p a v b y → Turned m p a v c z → (b ≡ c) × Same (m .nodes) y z
-  same-turned a v b c y z s t = let e = changed b c (s .moved) (s .stayed) (t .moved) (t .stayed) in (e, record {
-    registers = s .registers ∙ sym (t .registers);
-    turns = s .turns ∙ sym (t .turns);
-    rounds = s .counts .rounds ∙ sym (t .counts .rounds);
-    named = λ w l. s .counts .marks w l ∙ sym (t .counts .marks w l);
-    last = s .last ∙ ap (λ q. cond q (a .rounds + 1) (a .last)) e ∙ sym (t .last);
-    mark = s .mark ∙ sym (t .mark);
-    held = s .held ∙ sym (t .held);
-  })
+  same-turned a v b c y z s t = let e = changed b c (s .moved) (s .stayed) (t .moved) (t .stayed) in (
+    e,
+    record {
+      registers = s .registers ∙ sym (t .registers);
+      turns = s .turns ∙ sym (t .turns);
+      rounds = s .counts .rounds ∙ sym (t .counts .rounds);
+      named = λ w l. s .counts .marks w l ∙ sym (t .counts .marks w l);
+      last = s .last ∙ ap (λ q. cond q (a .rounds + 1) (a .last)) e ∙ sym (t .last);
+      mark = s .mark ∙ sym (t .mark);
+      held = s .held ∙ sym (t .held);
+    },
+  )
     where
       after : y .registers ≡ z .registers
       after = s .registers ∙ sym (t .registers)

@@ -16,7 +16,10 @@ impl<P: Silent> Net<'_, P> {
             return Err(Refusal::Held);
         }
         self.held = true;
-        Ok(Hold { mark: self.mark, badge })
+        Ok(Hold {
+            mark: self.mark,
+            badge,
+        })
     }
 
     /// Lifts a hold once the complete rounds have reached the bound; then none is open.

@@ -11,12 +11,16 @@ returns g c =
     let few = s .few in
     let whole = proper s in
     record {
-      starts = (refl, refl, record {
-        sized = g .P·Silent·met .sized _ _ whole;
-        registers = refl;
-        fresh = record { turns = c .new .ensures .turns; rounds = c .new .ensures .rounds; named = λ w l. c .new .ensures .named w (omega arith); last = c .new .ensures .last };
-        mark = refl;
-        held = refl;
-      });
+      starts = (
+        refl,
+        refl,
+        record {
+          sized = g .P·Silent·met .sized _ _ whole;
+          registers = refl;
+          fresh = record { turns = c .new .ensures .turns; rounds = c .new .ensures .rounds; named = λ w l. c .new .ensures .named w (omega arith); last = c .new .ensures .last };
+          mark = refl;
+          held = refl;
+        },
+      );
       promise = (promise _ _ (whole .drawn .some) (g .P·Silent·met .laws _ _ whole), firm _ _);
     }
