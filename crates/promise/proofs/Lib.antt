@@ -1,0 +1,9 @@
+pub mod Sound
+pub mod Checked
+pub mod Right
+pub mod Rests
+pub mod Patient
+pub mod PromiseLaws
+pub mod Answered
+pub mod FirmLaws
+pub mod CasesLaws
