@@ -63,7 +63,7 @@ tally-word zero i x f h lt = sym (ap ones (lt-one lt))
 tally-word (suc k) i x f h lt =
     let here : f i ≡ eqb (x % 2) 1 = ap f (sym (add-zero i)) ∙ h 0 (omega arith) ∙ ap (λ (z : ℕ). eqb (z % 2) 1) (div-one x) in
     let rest = tally-word k (i + 1) (x / 2) f (λ t tl. ap f (omega arith) ∙ h (1 + t) (omega arith) ∙ ap (λ (z : ℕ). eqb (z % 2) 1) (sym (shr-shr x 1 t))) (shr-lt k 1 (subst (λ (z : ℕ). x < 2 ^ z) (sym (add-one k)) lt)) in
-    ap₂ _+_ (ap (λ (b : Bool). cond b 1 0) here ∙ digit (x % 2) (mod-lt x (lit< tt))) rest ∙ sym (ones-step x)
+    _∙_ {b = x % 2 + ones (x / 2)} (ap₂ _+_ (ap (λ (b : Bool). cond b 1 0) here ∙ digit (x % 2) (mod-lt x (lit< tt))) rest) (sym (ones-step x))
 
 pub tally-append : (i k l : ℕ) (f : ℕ → Bool) → tally i (k + l) f ≡ tally i k f + tally (i + k) l f
 unfolding tally

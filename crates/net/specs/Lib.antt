@@ -1,3 +1,4 @@
 pub mod Marking
 pub mod Counting
 pub mod Calls
+pub mod Lives

@@ -3,6 +3,7 @@ ghost use mathlib.Core.Path.{_≡_};
 ghost use Prim.Native.Nat.{_<_};
 ghost use Rattle.promise.specs.Nets.{fault as Fault, turn as Turn};
 ghost use Rattle.net.specs.Calls.{Does, Gives, Promises, Starts, Unasked, drawing};
+ghost use Rattle.net.specs.Lives.{Lives};
 use super::Net;
 use crate::counters::Counters;
 use crate::limits::TURN_BUDGET;
@@ -18,6 +19,7 @@ impl<'a, P: Silent> Net<'a, P> {
     pub fn new(site: &'a Site, protocol: P, mark: u16) -> Net<'a, P>
         ensures starts { λ r. ⌜ Starts P·Silent (now (site .entry)) protocol mark r ⌝ }
         ensures promise { λ _. ⌜ Promises P·Silent (now (site .entry)) protocol ⌝ }
+        ensures lives { λ _. ⌜ Lives P·Silent ⌝ }
     {
         let nodes = site.nodes();
         Net {

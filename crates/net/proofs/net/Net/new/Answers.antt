@@ -3,6 +3,7 @@ use native.Mathlib.Omega.{arith}
 use Rattle.site.proofs.Whole.{proper}
 use Rattle.promise.proofs.PromiseLaws.{promise}
 use Rattle.promise.proofs.FirmLaws.{firm}
+use Rattle.net.proofs.LivesLaws.{lives}
 use Rattle.net.proofs.net.Net.new.Needs as need
 
 pub returns : need.returns
@@ -23,4 +24,5 @@ returns g c =
         },
       );
       promise = (promise _ _ (whole .drawn .some) (g .P·Silent·met .laws _ _ whole), firm _ _);
+      lives = lives (g .P·Silent);
     }
