@@ -11,6 +11,7 @@ use Rattle.rounds.proofs.RoundsLaws.{unique}
 use Rattle.rounds.proofs.MarksLaws.{tracks-first, tracks-next, marks-count}
 use Rattle.rounds.proofs.Counting.{counted-unique}
 use Rattle.protocol.specs.Cases.{five}
+use Rattle.protocol.proofs.CasesLaws.{table as protocol-table}
 use Rattle.protocol.specs.Protocols.{Protocol, Laws}
 use Rattle.promise.specs.Cases.{Counted, Table, TableStands}
 use Rattle.promise.proofs.Sound.{sound}
@@ -50,4 +51,4 @@ counted p laws ts k c f t w regs own es z s e =
     (q .0, ap (λ x. 5 - x) (q .1) ∙ w)
 
 pub table : (p : Protocol) → TableStands p
-table p laws = record { four-named = counted p laws _ 0 1 (named (0 ∷ 0 ∷ 1 ∷ 2 ∷ 3 ∷ []) none) four-named refl; all-named = counted p laws _ 1 5 none all-named refl }
+table p = (protocol-table, λ laws. record { four-named = counted p laws _ 0 1 (named (0 ∷ 0 ∷ 1 ∷ 2 ∷ 3 ∷ []) none) four-named refl; all-named = counted p laws _ 1 5 none all-named refl })
