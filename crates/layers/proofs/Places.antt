@@ -11,15 +11,6 @@ use Rattle.refusal.specs.declared.Refusal.{Refusal}
 use Rattle.protocol.specs.Protocols.{Protocol, told-size}
 use Rattle.silent.specs.Answers.{Read, Written}
 
--- what is said of a protocol's places is said of another's that has as many
-pub read-as : (p q : Protocol) → p .size ≡ q .size → (i : ℕ) (xs : List ℕ) (r : Result ℕ Refusal) → Read p i xs r → Read q i xs r
-read-as p q e i xs (Ok x) h = (omega (arith, h .0), h .1)
-read-as p q e i xs (Err f) h = (omega (arith, h .0), h .1)
-
-pub written-as : (p q : Protocol) → p .size ≡ q .size → (i x : ℕ) (xs ys : List ℕ) (r : Result (Unit {0}) Refusal) → Written p i x xs r ys → Written q i x xs r ys
-written-as p q e i x xs ys (Ok u) h = (omega (arith, h .0), h .1)
-written-as p q e i x xs ys (Err f) h = (omega (arith, h .0), h .1, h .2)
-
 module _ (p w : Protocol) (n : ℕ) (whole : w .size ≡ p .size + n) (b o : List ℕ) (sized : length b ≡ p .size) where
   pub low-read : (i : ℕ) (r : Result ℕ Refusal) → i < told-size p → Read p i b r → Read w i (b ++ o) r
   low-read i (Ok x) l h = (omega arith, h .1 ∙ sym (getD-append-left b o 0 i (omega arith)))

@@ -8,7 +8,7 @@ use native.Mathlib.Omega.{arith}
 use lib.Dec.{eqb}
 use lib.ListN.{length, getD, set, take, drop}
 use Rattle.std.specs.declared.option.Option.{Option}
-use Rattle.std.specs.declared.option.Option.the-variants.{Some, None}
+use Rattle.std.specs.declared.option.Option.the-variants.{Some}
 use Rattle.std.proofs.shelf.Lists.{at-drop-more, at-drop-all, getD-take}
 use Rattle.std.proofs.shelf.Tests.{cond-true, cond-false, eq-eqb, ne-eqb}
 use Rattle.std.proofs.shelf.Ways.{eqb-tells}
@@ -88,9 +88,6 @@ module _ (n : ℕ) (t : ℕ → Output) (v : ℕ) where
 
 -- the rank of a node, by its told parent
 module _ (m : Model) (ok : Proper m) (v : ℕ) (xs : List ℕ) (o : Option ℕ) where
-  pub rank-none : o ≡ None → 0 ≡ rank-from m o v (take (m .nodes + arcs m) xs)
-  rank-none e = sym (ap (λ (z : Option ℕ). rank-from m z v (take (m .nodes + arcs m) xs)) e)
-
   pub rank-some : (w r : ℕ) → o ≡ Some w → Among w (ports m v) → r ≡ min (m .nodes) (getD xs (slot m w v) 0) → r ≡ rank-from m o v (take (m .nodes + arcs m) xs)
   rank-some w r e h q =
       q

@@ -2,5 +2,5 @@
 pub mod beside;
 pub mod count;
 mod over;
-pub mod own;
+mod own;
 pub mod rank;
