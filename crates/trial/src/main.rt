@@ -62,7 +62,10 @@ fn say(rt: &LibcRuntime, draws: u32, answer: Result<Lifted, Refusal>) -> Result<
         Ok(lifted) => {
             let bound = lifted.bound;
             let last = lifted.last_change;
-            println!(rt, "{draws} draws: granted, bound {bound}, last change {last}")?;
+            println!(
+                rt,
+                "{draws} draws: granted, bound {bound}, last change {last}"
+            )?;
         }
         Err(e) => {
             let number = e.number();
