@@ -27,9 +27,7 @@ pub trait Daemon: Sized {
 }
 
 /// Carries the law of patience of any daemon, whatever it was asked before.
-pub fn patience_stands<D: Daemon>() -> u8
+pub fn patience_stands<D: Daemon>()
     ensures names { λ _. ⌜ ((d : D) → NamesAll (D·Daemon .meaning d)) ⌝ }
     ensures completes { λ _. ⌜ ((d : D) → CompletesRounds (D·Daemon .meaning d)) ⌝ }
-{
-    0
-}
+{}

@@ -31,15 +31,11 @@ pub trait Placed: Sized {
 }
 
 /// Carries the promise.
-pub fn promise_stands<X: Placed>() -> u8
+pub fn promise_stands<X: Placed>()
     ensures { λ _. ⌜ Promised (X·Placed .site) (X·Placed .protocol) ⌝ }
-{
-    0
-}
+{}
 
 /// Carries the worked examples.
-pub fn table_stands<X: Placed>() -> u8
+pub fn table_stands<X: Placed>()
     ensures { λ _. ⌜ TableStands (X·Placed .protocol) ⌝ }
-{
-    0
-}
+{}

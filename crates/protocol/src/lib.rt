@@ -1,5 +1,4 @@
 //! What a silent protocol means at a site, and the laws that every one owes; the meaning of ours, and their proofs.
-ghost use Rattle.protocol.specs.Cases.{Table};
 ghost use Rattle.protocol.specs.Gather.{Gathering};
 ghost use Rattle.protocol.specs.Layers.{Layer};
 ghost use Rattle.protocol.specs.Matching.{MatchingLaws};
@@ -32,36 +31,21 @@ pub trait Layering: Sized {
 }
 
 /// Carries the laws of Tree.
-pub fn tree_stands() -> u8
+pub fn tree_stands()
     ensures { λ _. ⌜ TreeLaws ⌝ }
-{
-    0
-}
+{}
 
 /// Carries the laws of the matching.
-pub fn matching_stands() -> u8
+pub fn matching_stands()
     ensures { λ _. ⌜ MatchingLaws ⌝ }
-{
-    0
-}
+{}
 
 /// Carries the laws of layers over any protocol, and of any two protocols side by side.
-pub fn layers_stand<X: Layering>() -> u8
+pub fn layers_stand<X: Layering>()
     ensures { λ _. ⌜ LayersStand (X·Layering .layer) (X·Layering .gathering) (X·Layering .left) (X·Layering .right) ⌝ }
-{
-    0
-}
+{}
 
 /// Carries the theorems about the stack.
-pub fn stack_stands() -> u8
+pub fn stack_stands()
     ensures { λ _. ⌜ StackStands ⌝ }
-{
-    0
-}
-
-/// Carries the worked examples.
-pub fn table_stands() -> u8
-    ensures { λ _. ⌜ Table ⌝ }
-{
-    0
-}
+{}

@@ -42,57 +42,41 @@ pub trait Turns: Sized {
 }
 
 /// Carries the laws of rounds.
-pub fn rounds_stand() -> u8
+pub fn rounds_stand()
     ensures { λ _. ⌜ R.Laws ⌝ }
-{
-    0
-}
+{}
 
 /// Carries the principles of runs that settle.
-pub fn runs_stand<X: Turns>() -> u8
+pub fn runs_stand<X: Turns>()
     ensures { λ _. ⌜ U.Laws (X·Turns .State) (X·Turns .step) (X·Turns .holds) (X·Turns .good) ⌝ }
-{
-    0
-}
+{}
 
 /// Carries the laws of forests.
-pub fn forests_stand() -> u8
+pub fn forests_stand()
     ensures { λ _. ⌜ F.Laws ⌝ }
-{
-    0
-}
+{}
 
 /// Carries the laws of preorder listings and ranks.
-pub fn preorders_stand() -> u8
+pub fn preorders_stand()
     ensures { λ _. ⌜ P.Laws ⌝ }
-{
-    0
-}
+{}
 
 /// Carries the laws of the counter of rounds.
-pub fn counters_stand() -> u8
+pub fn counters_stand()
     ensures { λ _. ⌜ M.Laws ⌝ }
-{
-    0
-}
+{}
 
 /// Carries the laws of the last turn that changed the state.
-pub fn changes_stand<X: Turns>() -> u8
+pub fn changes_stand<X: Turns>()
     ensures { λ _. ⌜ C.Laws (X·Turns .State) (X·Turns .step) (X·Turns .holds) ⌝ }
-{
-    0
-}
+{}
 
 /// Carries the laws of turns that leave no node out for long.
-pub fn patience_stands() -> u8
+pub fn patience_stands()
     ensures { λ _. ⌜ W.Laws ⌝ }
-{
-    0
-}
+{}
 
 /// Carries the laws of views of a state.
-pub fn views_stand<X: Turns>() -> u8
+pub fn views_stand<X: Turns>()
     ensures { λ _. ⌜ V.Laws (X·Turns .State) (X·Turns .Seen) (X·Turns .step) (X·Turns .acts) (X·Turns .view) (X·Turns .holds) (X·Turns .shows) (X·Turns .over) ⌝ }
-{
-    0
-}
+{}
