@@ -65,6 +65,7 @@ def main():
             clash.append((n, back[t]))
         back[t] = n
     texts = {}
+    crates = '|'.join(os.path.basename(os.path.dirname(f)) for f in files(top, 'crates/*/src'))
     for f in files(top, 'crates/**/*.antt'):
         texts[f] = open(f, encoding='utf-8').read()
         here = set(TOKEN.findall(texts[f]))
@@ -77,7 +78,9 @@ def main():
     for f, text in texts.items():
         # in proofs/F/ what stands after a dot and has a dash is a step of the walk, which Rattle names
         made = re.search(r'/proofs/.*/', f) is not None
-        step = lambda m: m.group(0) if made and '-' in m.group(0) and m.string[m.start() - 1:m.start()] == '.' else put(m)
+        # and what a file takes from the libraries keeps its spelling there
+        kept = set(TOKEN.findall(' '.join(l for l in text.split('\n') if re.match(r'(pub )?use (?!Rattle[.](%s)[.])' % crates, l))))
+        step = lambda m: m.group(0) if m.group(0) in kept else m.group(0) if made and '-' in m.group(0) and m.string[m.start() - 1:m.start()] == '.' else put(m)
         lines = [l if l.lstrip().startswith('--') and '`' not in l else TOKEN.sub(step, l) for l in text.split('\n')]
         new = '\n'.join(lines)
         if new != text:

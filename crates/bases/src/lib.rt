@@ -1,4 +1,7 @@
 //! Two silent protocols that stand on a site alone.
+
+#![tactic(auto)]
+
 pub mod block;
 pub mod matching;
 mod ports;

@@ -1,4 +1,7 @@
 //! Tests of the public calls on lines, sites and sheets. Every expected value is worked out by hand from the rules.
+
+#![tactic(auto)]
+
 #[cfg(test)]
 mod desk;
 #[cfg(test)]

@@ -3,7 +3,7 @@ use Rattle.std.specs.Prelude.{◌≡◌, ℕ, ◌<◌, ◌≤◌, Bool, List, le
 use Rattle.std.proofs.Common.{subst, inl, inr, arith}
 use Rattle.std.proofs.lemmas.Bool.{cases_lt}
 use Rattle.std.specs.List.{IsAnyAnswer}
-use Rattle.std.proofs.lemmas.List.Elements.{contains_decides as has_from_contains}
+use Rattle.std.proofs.lemmas.List.Elements.{contains_decides as has-from-contains}
 use Rattle.refusal.specs.Checks.{Free}
 use Rattle.lists.specs.Members.{Among}
 use Rattle.lists.proofs.Elements.{among_get_d, among_place}
@@ -32,5 +32,5 @@ no_stray n names all t =
 -- what `contains` answers
 pub contains_decides : (names : List ℕ) (v : ℕ) (r : Bool) → IsAnyAnswer (λ y t. Decides t (y ≡ v)) names r → Decides r (Among v names)
 contains_decides names v r h =
-    let d = has_from_contains nat_eq Decides-eqb names v r h in
+    let d = has-from-contains nat_eq Decides-eqb names v r h in
     (λ e. let t = d.0 e in subst (λ (z : ℕ). Among z names) (t.2 0) (among_get_d names t.0 0 t.1), λ m. d.1 (let t = among_place v names m in (t.0, t.1, t.2)))

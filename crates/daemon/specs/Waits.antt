@@ -1,6 +1,6 @@
 -- Waiting in a list of names that goes round and round.
 use Rattle.std.specs.Prelude.{◌≡◌, ℕ, suc, ◌+◌, ◌%◌, ◌<◌, ◌≤◌, Bool, cond, List, [], ◌∷◌, ◌++◌, length, take, drop, ◌==◌, ◌≢◌, slice_index, slice_index_or}
-use Rattle.std.proofs.Common.{sym, ap, subst, ◌∙◌, inl, inr, append_assoc, append_nil, mod-eq_of_lt, arith, eq-eqb, length-append, take-append-drop}
+use Rattle.std.proofs.Common.{sym, ap, subst, ◌∙◌, inl, inr, append_assoc, append-nil, mod-eq_of_lt, arith, eq-eqb, length-append, take-append-drop}
 use Rattle.std.proofs.Math.Nat.{mod_self}
 use Rattle.std.proofs.lemmas.List.{take_more, drop_more, drop_all, take_all}
 use Rattle.std.proofs.lemmas.Bool.{cases_Bool, cases_lt, ne_eqb}
@@ -65,7 +65,7 @@ upcoming_next names place l =
           let e : place + 1 ≡ length names = omega arith in
           ap (λ (m : ℕ). upcoming names (m % length names)) e
           ∙ ap (upcoming names) (mod_self (length names))
-          ∙ append_nil names
+          ∙ append-nil names
           ∙ sym (take_all (place + 1) names k)
           ∙ more
           ∙ sym (ap (λ (z : List ℕ). (z ++ take place names) ++ (x ∷ [])) (drop_all (place + 1) names k))

@@ -1,4 +1,7 @@
 //! Daemons: who gets the next turn.
+
+#![tactic(auto)]
+
 ghost use Rattle.std.specs.Prelude.{◌≡◌, ℕ};
 ghost use Rattle.daemon.specs.Dues.{Asked, CompletesRounds, Dues, NamesAll, Timely};
 

@@ -1,1 +1,3 @@
 //! Words and lemmas on lists that several crates share; no code.
+
+#![tactic(auto)]

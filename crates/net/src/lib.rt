@@ -1,4 +1,7 @@
 //! A net: one site and any silent protocol on it, the counters of its turns, and the promise over whole runs.
+
+#![tactic(auto)]
+
 mod counters;
 pub mod hold;
 pub mod limits;

@@ -1,5 +1,5 @@
 -- Draws of one daemon, with any other turns between them, complete a round for each of its patience.
-use Rattle.std.proofs.Common.{◌≡◌, ℕ, zero, suc, ◌+◌, ◌*◌, ◌<◌, ◌≤◌, ◌⊎◌, List, [], ◌∷◌, ◌++◌, sym, refl, ap, ◌∙◌, subst, inl, inr, append_assoc, append_nil, mul-le-mul_right, mul-le-mul_left, one-mul, mul-zero, mul-suc, arith}
+use Rattle.std.proofs.Common.{◌≡◌, ℕ, zero, suc, ◌+◌, ◌*◌, ◌<◌, ◌≤◌, ◌⊎◌, List, [], ◌∷◌, ◌++◌, sym, refl, ap, ◌∙◌, subst, inl, inr, append_assoc, append-nil, mul-le-mul_right, mul-le-mul_left, one-mul, mul-zero, mul-suc, arith}
 use Rattle.std.proofs.lemmas.Bool.{cases_eq, cases_lt}
 use Rattle.lists.specs.Members.{Among}
 use Rattle.lists.proofs.Elements.{among_append_left, among_push}
@@ -80,7 +80,7 @@ drew_next n w d y j ts v c a = elim (cases_lt (suc c.more) w) [ inl l ↦ part l
       more = 0;
       front = ts ++ (v ∷ []);
       back = [];
-      splits = append_nil (ts ++ (v ∷ []));
+      splits = append-nil (ts ++ (v ∷ []));
       blocked = (c.front, c.back ++ (v ∷ []), pushed c.front c.back ts v c.splits, c.blocked, λ u i. elim (waits u i) [ inl x ↦ x | inr x ↦ absurd (let q = (due u i).0 in omega arith) ]);
       draws = (let e = c.draws in let f = c.few in let q = mul-suc w c.whole in omega arith);
       few = (let f = c.few in omega arith);

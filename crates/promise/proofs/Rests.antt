@@ -1,5 +1,5 @@
 -- Once the rounds have reached the told bound, nothing changes until the next fault.
-use Rattle.std.proofs.Common.{◌≡◌, ℕ, ◌+◌, ◌<◌, ◌≤◌, min, List, [], ◌∷◌, ◌++◌, length, sym, refl, ap, ◌∙◌, subst, append_assoc, append_nil, arith, length-append}
+use Rattle.std.proofs.Common.{◌≡◌, ℕ, ◌+◌, ◌<◌, ◌≤◌, min, List, [], ◌∷◌, ◌++◌, length, sym, refl, ap, ◌∙◌, subst, append_assoc, append-nil, arith, length-append}
 use Rattle.graph.specs.Model.{Model}
 use Rattle.rounds.specs.Runs.{run, Below}
 use Rattle.rounds.proofs.RoundsLaws.{splits_completes, completes_fewer, rounds_below_turns_lem}
@@ -16,7 +16,7 @@ accepted_append (e ∷ later) es = ap (λ q. events e.0 e.1 ++ q) (accepted_appe
 
 -- without a fault the registers that the latest one left stay, and the turns go on
 calm_on : (p : Protocol) (regs : List ℕ) (g h : List Event) → Calm g → (left p regs (g ++ h) ≡ left p regs h) × ((ts : List ℕ) × (since (g ++ h) ≡ since h ++ ts))
-calm_on p regs [] h c = (refl, ([], sym (append_nil (since h))))
+calm_on p regs [] h c = (refl, ([], sym (append-nil (since h))))
 calm_on p regs (turned v ∷ g) h c = let t = calm_on p regs g h c in (t.0, (t.1.0 ++ (v ∷ []), ap (λ q. q ++ (v ∷ [])) t.1.1 ∙ append_assoc (since h) t.1.0 (v ∷ [])))
 calm_on p regs (drawn d v y ∷ g) h c = let t = calm_on p regs g h c in (t.0, (t.1.0 ++ (v ∷ []), ap (λ q. q ++ (v ∷ [])) t.1.1 ∙ append_assoc (since h) t.1.0 (v ∷ [])))
 calm_on p regs (faulted i x ∷ g) h c = absurd c

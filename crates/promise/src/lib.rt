@@ -1,5 +1,8 @@
 //! What a net does with each call, and what it promises over whole runs, for every silent protocol; no code.
 //! Each function carries one family of theorems.
+
+#![tactic(auto)]
+
 ghost use Rattle.graph.specs.Model.{Model};
 ghost use Rattle.protocol.specs.Protocols.{Protocol};
 ghost use Rattle.promise.specs.Cases.{TableStands};

@@ -1,4 +1,7 @@
 //! What a silent protocol means at a site, and the laws that every one owes; the meaning of ours, and their proofs.
+
+#![tactic(auto)]
+
 ghost use Rattle.protocol.specs.Gather.{Gathering};
 ghost use Rattle.protocol.specs.Layers.{Layer};
 ghost use Rattle.protocol.specs.Matching.{MatchingLaws};

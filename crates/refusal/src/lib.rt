@@ -1,4 +1,7 @@
 //! Why a call is declined: one closed list for the whole product.
+
+#![tactic(auto)]
+
 ghost use Rattle.std.specs.Prelude.{◌≡◌};
 ghost use Rattle.refusal.specs.Numbers.{number_of};
 

@@ -1,5 +1,5 @@
 -- The round of the last turn that changed the state.
-use Rattle.std.proofs.Common.{◌≡◌, ℕ, zero, suc, ◌<◌, List, [], ◌∷◌, ◌++◌, length, sym, refl, ap, ◌∙◌, subst, inl, inr, append_assoc, append_nil, arith, length-append}
+use Rattle.std.proofs.Common.{◌≡◌, ℕ, zero, suc, ◌<◌, List, [], ◌∷◌, ◌++◌, length, sym, refl, ap, ◌∙◌, subst, inl, inr, append_assoc, append-nil, arith, length-append}
 use Rattle.std.proofs.lemmas.Bool.{cases_lt, cases_order}
 use Rattle.lists.proofs.Elements.{among_append_right}
 use Rattle.rounds.specs.Rounds.{Splits}
@@ -14,7 +14,7 @@ front_same : (a b c d : List ℕ) → a ++ b ≡ c ++ d → length a ≡ length 
 front_same a b c d q l = elim (fronts a b c d q) [ inl t ↦ left t.0 t.1 | inr t ↦ (let e = ap length t.2 in let f = length-append c (t.0 ∷ t.1) in absurd (omega arith)) ]
   where
     left : (e : List ℕ) → a ++ e ≡ c → a ≡ c
-    left [] p = sym (append_nil a) ∙ p
+    left [] p = sym (append-nil a) ∙ p
     left (x ∷ e) p = let g = ap length p in let f = length-append a (x ∷ e) in absurd (omega arith)
 
 module _ (S : Type 0) (step : ℕ → S → S) where

@@ -1,5 +1,5 @@
 -- Where the listing of a node stands in that of the node above it.
-use Rattle.std.proofs.Common.{◌≡◌, ℕ, suc, ◌+◌, ◌<◌, ◌≤◌, List, [], ◌∷◌, ◌++◌, length, sym, ap, ◌∙◌, subst, append_assoc, append_nil, arith, length-append}
+use Rattle.std.proofs.Common.{◌≡◌, ℕ, suc, ◌+◌, ◌<◌, ◌≤◌, List, [], ◌∷◌, ◌++◌, length, sym, ap, ◌∙◌, subst, append_assoc, append-nil, arith, length-append}
 use Rattle.std.specs.List.{flat_map}
 use Rattle.lists.specs.Members.{Among}
 use Rattle.lists.proofs.Elements.{among_append_left}
@@ -56,7 +56,7 @@ module _ (n : ℕ) (par d : ℕ → ℕ) (children : ℕ → List ℕ) (deep : D
         omega (arith, t.0, listed_low s.end s.node)
 
     pub stands : (v : ℕ) → v < n → Stands v
-    stands = by_parents n par d deep Stands (λ v l e. record { end = v; node = l; last = e; before = []; after = []; place = sym (top v l e); whole = sym (append_nil (listing v)) }) on
+    stands = by_parents n par d deep Stands (λ v l e. record { end = v; node = l; last = e; before = []; after = []; place = sym (top v l e); whole = sym (append-nil (listing v)) }) on
       where
         on : (v w : ℕ) → v < n → w < n → par v ≡ suc w → Stands w → Stands v
         on v w l m e s =

@@ -1,5 +1,5 @@
 -- Rounds of a list of turns: the split, and what one more turn does to it.
-use Rattle.std.proofs.Common.{◌≡◌, ℕ, zero, suc, ◌+◌, ◌*◌, ◌<◌, ◌≤◌, ◌⊎◌, List, [], ◌∷◌, ◌++◌, length, sym, refl, ap, ◌∙◌, subst, inl, inr, append_assoc, append_nil, mul-le-mul_right, mul-le-mul_left, mul-zero, mul-suc, arith, length-append}
+use Rattle.std.proofs.Common.{◌≡◌, ℕ, zero, suc, ◌+◌, ◌*◌, ◌<◌, ◌≤◌, ◌⊎◌, List, [], ◌∷◌, ◌++◌, length, sym, refl, ap, ◌∙◌, subst, inl, inr, append_assoc, append-nil, mul-le-mul_right, mul-le-mul_left, mul-zero, mul-suc, arith, length-append}
 use Rattle.lists.specs.Members.{Among}
 use Rattle.lists.proofs.Decisions.{Decided, all_below?, among_number?}
 use Rattle.lists.proofs.Elements.{among_append_left, among_append_right}
@@ -40,7 +40,7 @@ first_round_same : (n : ℕ) (a b c d : List ℕ) → a ++ b ≡ c ++ d → Roun
 first_round_same n a b c d q ra rc = elim (fronts a b c d q) [ inl t ↦ left t.0 t.1 t.2 | inr t ↦ absurd (ra.tight c t.0 t.1 t.2 rc.covers) ]
   where
     left : (e : List ℕ) → a ++ e ≡ c → b ≡ e ++ d → (a ≡ c) × (b ≡ d)
-    left [] p r = (sym (append_nil a) ∙ p, r)
+    left [] p r = (sym (append-nil a) ∙ p, r)
     left (x ∷ e) p r = absurd (rc.tight a x e p ra.covers)
 
 pub unique : Unique
@@ -54,14 +54,14 @@ unique n (suc k) (suc j) xs r q s t =
 
 -- a proper front of xs and one more is a front of xs
 front_of_push : (front : List ℕ) (x : ℕ) (back xs : List ℕ) (v : ℕ) → front ++ (x ∷ back) ≡ xs ++ (v ∷ []) → (e : List ℕ) × (front ++ e ≡ xs)
-front_of_push front x back xs v q = elim (push_cases front x back xs v q) [ inl t ↦ ([], append_nil front ∙ t.0) | inr t ↦ (x ∷ t.0, t.1) ]
+front_of_push front x back xs v q = elim (push_cases front x back xs v q) [ inl t ↦ ([], append-nil front ∙ t.0) | inr t ↦ (x ∷ t.0, t.1) ]
 
 -- the split of one more turn, under the first round
 push_later : (n k j : ℕ) (xs r q : List ℕ) (v : ℕ) (s : Splits n (suc k) xs r) → Splits n j (s.1 ++ (v ∷ [])) q → Splits n (suc j) (xs ++ (v ∷ [])) q
 push_later n k j xs r q v s t = (s.0, s.1 ++ (v ∷ []), sym (append_assoc s.0 s.1 (v ∷ [])) ∙ ap (λ z. z ++ (v ∷ [])) s.2, s.3, t)
 
 pub closes : Closes
-closes n zero xs r v l s c = (xs ++ (v ∷ []), [], append_nil (xs ++ (v ∷ [])), now, (refl, nil_covers_none n l))
+closes n zero xs r v l s c = (xs ++ (v ∷ []), [], append-nil (xs ++ (v ∷ [])), now, (refl, nil_covers_none n l))
   where
     now : Round n (xs ++ (v ∷ []))
     now = record {
@@ -79,7 +79,7 @@ grows n k xs r v l s = elim (covers? n (r ++ (v ∷ []))) [ inl c ↦ inr (close
 
 -- more turns extend the open rest, or complete the round
 further : (n k : ℕ) (xs r ys : List ℕ) → 0 < n → Splits n k xs r → Splits n k (xs ++ ys) (r ++ ys) ⊎ Completes n (suc k) (xs ++ ys)
-further n k xs r [] l s = inl (rw (append_nil xs, append_nil r) s)
+further n k xs r [] l s = inl (rw (append-nil xs, append-nil r) s)
 further n k xs r (v ∷ ys) l s = rw (← append_assoc xs (v ∷ []) ys, ← append_assoc r (v ∷ []) ys) (elim (grows n k xs r v l s) [ inl t ↦ further n k (xs ++ (v ∷ [])) (r ++ (v ∷ [])) ys l t | inr t ↦ inr (done (further n (suc k) (xs ++ (v ∷ [])) [] ys l t)) ])
   where
     done : Splits n (suc k) ((xs ++ (v ∷ [])) ++ ys) ys ⊎ Completes n (suc (suc k)) ((xs ++ (v ∷ [])) ++ ys) → Completes n (suc k) ((xs ++ (v ∷ [])) ++ ys)

@@ -1,5 +1,8 @@
 //! Rounds of a list of turns, runs that settle, and forests of parents; no code.
 //! Each function carries one family of laws.
+
+#![tactic(auto)]
+
 ghost use Rattle.std.specs.Prelude.{ℕ};
 ghost use Rattle.rounds.specs.Changes as C;
 ghost use Rattle.rounds.specs.Forest as F;

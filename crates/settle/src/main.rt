@@ -1,4 +1,7 @@
 //! Reads a depot's sheet from standard input and answers it on standard output.
+
+#![tactic(auto)]
+
 use report::answer::answer;
 use site::fault::BuildFault;
 use site::room::SiteRoom;

@@ -1,6 +1,6 @@
 -- A body grows line by line, and ends where a line is refused.
 use Rattle.std.proofs.Common.{◌≡◌, ℕ, ◌+◌, ◌<◌, ◌≤◌, List, [], ◌∷◌, ◌++◌, length, get_or, take, drop, Ok, Err, Result, sym, refl, ap, ◌∙◌, subst, append_assoc, arith, take-append-drop}
-use Rattle.std.proofs.lemmas.List.{append_nil, drop_more, flat_map_more, length_push, length-take-le, take_more}
+use Rattle.std.proofs.lemmas.List.{append-nil, drop_more, flat_map_more, length_push, length-take-le, take_more}
 use Rattle.std.specs.List.{flat_map}
 use Rattle.refusal.specs.declared.Refusal.{Refusal}
 use Rattle.refusal.specs.Checks.{First, Free}
@@ -11,7 +11,7 @@ use Rattle.sheet.specs.Body.{Body, BodyRead, Front, Good, Out, Refuses, Rules, p
 
 module _ {X : Type 0} (bytes : X → List ℕ) (rules : Rules X) (k : ℕ) where
   pub good_push : (before xs : List X) (x : X) → Good rules k before xs → Free (rules k (before ++ xs) x) → Good rules k before (xs ++ (x ∷ []))
-  good_push before [] x g f = (subst (λ (b : List X). Free (rules k b x)) (append_nil before) f, tt)
+  good_push before [] x g f = (subst (λ (b : List X). Free (rules k b x)) (append-nil before) f, tt)
   good_push before (y ∷ xs) x g f =
       (g.0, good_push (before ++ (y ∷ [])) xs x g.1 (subst (λ (b : List X). Free (rules k b x)) (sym (append_assoc before (y ∷ []) xs)) f))
 

@@ -1,6 +1,6 @@
 -- What the writer's checks find is what reading would find.
 use Rattle.std.proofs.Common.{◌≡◌, ℕ, ◌+◌, ◌<◌, ◌≤◌, ◌⊎◌, List, [], ◌∷◌, ◌++◌, length, take, Ok, Err, Result, sym, refl, ap, ◌∙◌, subst, inl, inr, ⊎_elim, arith}
-use Rattle.std.proofs.lemmas.List.{append_nil}
+use Rattle.std.proofs.lemmas.List.{append-nil}
 use Rattle.lists.specs.Members.{Among}
 use Rattle.lists.proofs.Decisions.{all_below?, among_number?}
 use Rattle.graph.specs.Model.{Reached}
@@ -65,7 +65,7 @@ module _ (ns : Contents) (l : Lists) (nl : length l.links ≡ ns.links.value) (n
     lines_at_turns good e h =
         at_turns ns (after_contents l) l.links p2 (links_pass ns (after_contents l) l.links p2 (nl, front_whole link_bytes link_rules ns.nodes.value l.links p2.rest 4 links.0) links.1)
         l.faults p3 (nf, front_whole fault_bytes fault_rules (places ns) l.faults p3.rest (4 + length l.links) good) e
-        (subst (λ (r : List ℕ). Turned r) (append_nil (written turn_bytes l.turns)) (h []))
+        (subst (λ (r : List ℕ). Turned r) (append-nil (written turn_bytes l.turns)) (h []))
       where
         Turned : List ℕ → Type 0
         Turned r = turn_lines ns (record { rest = r; line = 4 + length l.links + length l.faults }) (refused e)

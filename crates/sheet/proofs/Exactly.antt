@@ -1,6 +1,6 @@
 -- An accepted sheet is byte for byte what is written of its contents, and what is written of a proper one is accepted.
 use Rattle.std.proofs.Common.{◌≡◌, ℕ, ◌+◌, ◌<◌, ◌≤◌, List, [], ◌∷◌, ◌++◌, length, take, Ok, Err, Result, sym, refl, ap, ◌∙◌, subst, arith}
-use Rattle.std.proofs.lemmas.List.{append_nil}
+use Rattle.std.proofs.lemmas.List.{append-nil}
 use Rattle.text.specs.Spots.{Spot}
 use Rattle.text.specs.declared.contents.ContentsLine.{ContentsLine}
 use Rattle.text.specs.declared.records.LinkLine.{LinkLine}
@@ -37,7 +37,7 @@ lists_written ns p q ls h =
     let is : ls ≡ record { links = lk; faults = fs; turns = ts } = h4.2.0 in
     links_written ns p h.1.0 lk h.1.1 ∙ ap (λ (r : List ℕ). written link_bytes lk ++ r)
     (h2.1.1.1.text ∙ ap (λ (r : List ℕ). written fault_bytes fs ++ r)
-    (turns_written ns h2.1.0 h3.1.0 ts h3.1.1 ∙ ap (λ (r : List ℕ). written turn_bytes ts ++ r) h4.1.0 ∙ append_nil (written turn_bytes ts)))
+    (turns_written ns h2.1.0 h3.1.0 ts h3.1.1 ∙ ap (λ (r : List ℕ). written turn_bytes ts ++ r) h4.1.0 ∙ append-nil (written turn_bytes ts)))
     ∙ ap body_bytes (sym is)
 
 pub accepted_written : (bytes : List ℕ) (s : Sheet) → Accepts bytes s → bytes ≡ sheet_bytes s
@@ -84,7 +84,7 @@ proper_accepted s h =
     let p4 : Spot = record { rest = []; line = 4 + length ls + length fs + length ts } in
     let f1 : Front link_bytes link_rules ns.nodes.value ls p1 p2 = record { text = refl; lines = refl; good = h.links_good } in
     let f2 : Front fault_bytes fault_rules (places ns) fs p2 p3 = record { text = refl; lines = refl; good = h.faults_good } in
-    let f3 : Front turn_bytes turn_rules ns.nodes.value ts p3 p4 = record { text = sym (append_nil (written turn_bytes ts)); lines = refl; good = h.turns_good } in
+    let f3 : Front turn_bytes turn_rules ns.nodes.value ts p3 p4 = record { text = sym (append-nil (written turn_bytes ts)); lines = refl; good = h.turns_good } in
     let all = all_lines ns p1 ls p2 (links_pass ns p1 ls p2 (h.links_count, f1) h.reached) fs p3 (h.faults_count, f2) ts p4 (turns_pass ns p3 ts p4 (h.turns_count, f3) (λ m. m.1 (h.named m.0))) refl in
     (p4, (tt, (p0, ((λ (over : 65536 < length (sheet_bytes s)). omega arith), refl), (ns, (p1, contents_pass s h.limits, (s.lists, (p4, all, (refl, refl))))))))
 

@@ -1,6 +1,6 @@
 -- Each stage of the judgement gives one outcome.
 use Rattle.std.proofs.Common.{◌≡◌, ℕ, ◌+◌, ◌<◌, ◌≤◌, ◌⊎◌, List, [], ◌∷◌, ◌++◌, length, Ok, Err, sym, refl, ap, ◌∙◌, subst, inl, inr, ⊎_elim, append_assoc, arith}
-use Rattle.std.proofs.lemmas.List.{append_nil}
+use Rattle.std.proofs.lemmas.List.{append-nil}
 use Rattle.text.specs.Spots.{Spot, Takes, Why, AtEnd}
 use Rattle.text.specs.declared.fault.ScanFault.{ScanFault}
 use Rattle.text.specs.Cuts.{cut_once}
@@ -116,10 +116,10 @@ same_front :
 same_front kind rules k n m b [] [] q z t gx gy lx ly sx sy = (refl, t)
 same_front {X} {bytes} kind rules k n m b [] (y ∷ ys) q z t gx gy lx ly sx sy =
     absurd (⊎_elim (λ e. omega arith)
-    (λ e. clash kind rules k b q e.0 y (written bytes ys ++ z.rest) (subst (λ (w : List X). Refuses bytes rules k w q e.0) (append_nil b) e.1) (t ∙ head_cut bytes y ys z.rest) gy.0) sx)
+    (λ e. clash kind rules k b q e.0 y (written bytes ys ++ z.rest) (subst (λ (w : List X). Refuses bytes rules k w q e.0) (append-nil b) e.1) (t ∙ head_cut bytes y ys z.rest) gy.0) sx)
 same_front {X} {bytes} kind rules k n m b (x ∷ xs) [] q z t gx gy lx ly sx sy =
     absurd (⊎_elim (λ e. omega arith)
-    (λ e. clash kind rules k b z e.0 x (written bytes xs ++ q.rest) (subst (λ (w : List X). Refuses bytes rules k w z e.0) (append_nil b) e.1) (sym t ∙ head_cut bytes x xs q.rest) gx.0) sy)
+    (λ e. clash kind rules k b z e.0 x (written bytes xs ++ q.rest) (subst (λ (w : List X). Refuses bytes rules k w z e.0) (append-nil b) e.1) (sym t ∙ head_cut bytes x xs q.rest) gx.0) sy)
 same_front {X} {bytes} kind rules k n m b (x ∷ xs) (y ∷ ys) q z t gx gy lx ly sx sy =
     let same = line_once kind x y (written bytes (x ∷ xs) ++ q.rest) (written bytes xs ++ q.rest) (written bytes ys ++ z.rest) (head_cut bytes x xs q.rest) (t ∙ head_cut bytes y ys z.rest) in
     let e : x ≡ y = same.0 in

@@ -1,4 +1,7 @@
 //! Sheets: a depot's links, faults and turns as lines of text, read and written by one description.
+
+#![tactic(auto)]
+
 pub mod body;
 mod check;
 pub mod contents;

@@ -1,4 +1,7 @@
 //! The interface of a silent protocol: what its calls answer, by its meaning at a site, and the laws that it owes.
+
+#![tactic(auto)]
+
 ghost use Rattle.std.specs.Prelude.{◌≡◌, ℕ, List};
 ghost use Rattle.graph.specs.Model.{Model, Proper};
 ghost use Rattle.site.specs.Sites.{model};

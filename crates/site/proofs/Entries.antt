@@ -1,6 +1,6 @@
 -- Links entered one after another: one more that is free, and the first that is declined.
 use Rattle.std.proofs.Common.{◌≡◌, ℕ, List, [], ◌∷◌, ◌++◌, sym, ap, ◌∙◌, subst, inl, inr, append_assoc}
-use Rattle.std.proofs.lemmas.List.{append_nil}
+use Rattle.std.proofs.lemmas.List.{append-nil}
 use Rattle.refusal.specs.declared.Refusal.{Refusal}
 use Rattle.refusal.specs.Checks.{First, Free}
 use Rattle.graph.specs.Model.{Model}
@@ -11,7 +11,7 @@ abbrev pub filled : Model → List (ℕ × ℕ) → Model
 filled m xs = record { nodes = m.nodes; root = m.root; links = m.links ++ xs }
 
 filled_none : (m : Model) → filled m [] ≡ m
-filled_none m = ap (λ (ls : List (ℕ × ℕ)). record { nodes = m.nodes; root = m.root; links = ls }) (append_nil m.links)
+filled_none m = ap (λ (ls : List (ℕ × ℕ)). record { nodes = m.nodes; root = m.root; links = ls }) (append-nil m.links)
 
 filled_step : (m : Model) (x : ℕ × ℕ) (xs : List (ℕ × ℕ)) → filled m (x ∷ xs) ≡ filled (with_link m x.0 x.1) xs
 filled_step m x xs = ap (λ (ls : List (ℕ × ℕ)). record { nodes = m.nodes; root = m.root; links = ls }) (sym (append_assoc m.links (x ∷ []) xs))

@@ -1,4 +1,7 @@
 //! Sites: links entered one by one into a builder, and the finished site with its ports, arcs and distances.
+
+#![tactic(auto)]
+
 pub mod build;
 pub mod builder;
 pub mod fault;

@@ -1,4 +1,7 @@
 //! Lines of text: numbers, fields between semicolons, lines of fields, and a reader over lent bytes.
+
+#![tactic(auto)]
+
 pub mod contents;
 pub mod fault;
 pub mod field;

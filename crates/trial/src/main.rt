@@ -1,5 +1,8 @@
 //! Tries the whole stack on the site of five nodes under a round robin: a lift comes too early after 59 draws, and is
 //! granted after 60.
+
+#![tactic(auto)]
+
 use anyhow::anyhow;
 use bases::matching::Matching;
 use bases::tree::Tree;
