@@ -1,15 +1,19 @@
 -- Each kind of line: its bytes have no line feed, are short, and tell the line.
-use Rattle.std.specs.Prelude.{◌≡◌, [], ◌∷◌}
-use Rattle.text.specs.declared.field.Field.TheVariants.{Value}
+use Rattle.std.specs.Prelude.{◌≡◌, ◌≤◌, [], ◌∷◌, length}
+use Rattle.std.proofs.Common.{arith}
+use Rattle.text.specs.declared.field.Field.TheVariants.{Value, Word}
 use Rattle.text.specs.declared.field.Keyword.TheVariants.{Contents}
+use Rattle.text.specs.declared.field.Keyword.TheVariants as word
+use Rattle.text.specs.declared.report.ReportLine.{ReportLine}
+use Rattle.text.specs.declared.report.ReportLine.TheVariants.{Tally, Node, Refused}
 use Rattle.text.specs.declared.records.LinkLine.{LinkLine}
 use Rattle.text.specs.declared.records.FaultLine.{FaultLine}
 use Rattle.text.specs.declared.records.TurnLine.{TurnLine}
 use Rattle.text.specs.declared.contents.ContentsLine.{ContentsLine}
 use Rattle.text.specs.Fields.{pair, headed}
-use Rattle.text.specs.Lines.{link_bytes, fault_bytes, turn_bytes, contents_bytes}
+use Rattle.text.specs.Lines.{link_bytes, fault_bytes, turn_bytes, contents_bytes, report_bytes, node_fields}
 use Rattle.text.specs.Page.{Lacks}
-use Rattle.text.specs.FieldsLemmas.{line_plain, pair_once, contents_once}
+use Rattle.text.specs.FieldsLemmas.{line_plain, line_short, pair_once, contents_once}
 use Rattle.text.specs.Numbers.{written_once}
 
 pub link_plain : (x : LinkLine) → Lacks 10 (link_bytes x)
@@ -23,6 +27,16 @@ turn_plain x = line_plain (Value x.node ∷ [])
 
 pub contents_plain : (x : ContentsLine) → Lacks 10 (contents_bytes x)
 contents_plain x = line_plain (headed (Contents x.word) x.number)
+
+pub report_plain : (x : ReportLine) → Lacks 10 (report_bytes x)
+report_plain (Tally x) = line_plain (headed (word.Tally x.word) x.number)
+report_plain (Node x) = line_plain (node_fields x)
+report_plain (Refused x) = line_plain (Word word.Refused ∷ pair x.number x.line)
+
+pub report_short : (x : ReportLine) → length (report_bytes x) ≤ 63
+report_short (Tally x) = let h = line_short (headed (word.Tally x.word) x.number) in omega arith
+report_short (Node x) = let h = line_short (node_fields x) in omega arith
+report_short (Refused x) = let h = line_short (Word word.Refused ∷ pair x.number x.line) in omega arith
 
 pub same_link : (x y : LinkLine) → link_bytes x ≡ link_bytes y → x ≡ y
 same_link x y e = let h = pair_once x.a x.b y.a y.b e in λ i. record { a = h.0 i; b = h.1 i }

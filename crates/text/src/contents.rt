@@ -40,16 +40,16 @@ pub struct ContentsLine {
 fn find_word(name: &[u8]) -> Option<Word>
     ensures { Accepts letters name.now result }
 {
-    if name == b"NODES" {
+    if name == b"NODES".as_slice() {
         return Some(Word::Nodes);
     }
-    if name == b"LINKS" {
+    if name == b"LINKS".as_slice() {
         return Some(Word::Links);
     }
-    if name == b"FAULTS" {
+    if name == b"FAULTS".as_slice() {
         return Some(Word::Faults);
     }
-    if name == b"TURNS" {
+    if name == b"TURNS".as_slice() {
         return Some(Word::Turns);
     }
     None

@@ -4,6 +4,7 @@ ghost use Rattle.text.specs.Lines.{node_bytes, node_fields, refused_bytes, repor
 ghost use Rattle.text.specs.declared.field.Keyword.TheVariants as Thevariants;
 ghost use Rattle.text.specs.Fields.{headed, pair};
 ghost use Rattle.text.specs.FieldsLemmas.{line_plain, line_short};
+ghost use Rattle.text.specs.LineKinds.{report_plain, report_short};
 ghost use Rattle.std.proofs.Common.{arith};
 ghost use Rattle.text.specs.declared.field.Field.TheVariants.{Word};
 ghost use Rattle.text.specs.declared.field.Keyword.TheVariants.{Refused};
@@ -148,6 +149,10 @@ impl WriteLine for NodeLine {
 
 impl WriteLine for ReportLine {
     ghost bytes = { report_bytes };
+
+    ghost plain = { report_plain };
+
+    ghost short = { report_short };
 
     fn size(&self) -> usize {
         match self {
