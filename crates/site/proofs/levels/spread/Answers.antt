@@ -14,7 +14,7 @@ pub touches-requires : goal.touches-requires
 touches-requires c =
     let v = c.loop-v.v in
     let t = c.loop-v-test.true in
-    ((c.requires.1.0 v t).0, λ u a. let h = c.requires.1.1 v t u a in let k = c.loop-v.auto.distances in let e = c.requires.0 in omega arith)
+    (record { degree_bound = (c.requires.sound.0 v t).0; by_index = λ u a. let h = c.requires.sound.1 v t u a in let k = c.loop-v.auto.distances in let e = c.requires.distances_len in omega arith })
 
 -- a turn that leaves the marks as they are
 left : (m : Model) (k i : ℕ) (ds es : List ℕ) (grew grown : Bool) → k < 256 → i < m.nodes → es ≡ ds → grown ≡ grew → Partly m k i ds × (grew ≡ false → Still m k i) → (mark m (suc k) i ≡ mark m k i) × (within m (suc k) i ≡ within m k i) → Partly m k (i + 1) es × (grown ≡ false → Still m k (i + 1))
@@ -30,7 +30,7 @@ loop-v-preserved c m d h =
     let ds = c.loop-v.distances in
     let es = c.if-distances-v.distances in
     let inv = c.loop-v.invariant m d h in
-    let low : k < 256 = c.requires.2 in
+    let low : k < 256 = c.requires.level_bound in
     let l : i < m.nodes = let a = d.1 in let b = c.loop-v-test.true in omega arith in
     let here = (inv.0 i l).1 (omega arith) in
     let touch = partly_touches m k low c.args.nodes.now d i ds inv.0 i l in
@@ -38,7 +38,7 @@ loop-v-preserved c m d h =
       | then-distances-v+then-touches w ↦
           let far = sym here ∙ w.if-distances-v.true in
           let new = level_adds m k i low far (sym touch ∙ sym w.touches.ensures ∙ w.if-touches.true) in
-          let room : i < length ds = let a = c.loop-v.auto.distances in let b = c.requires.0 in let t = c.loop-v-test.true in omega arith in (
+          let room : i < length ds = let a = c.loop-v.auto.distances in let b = c.requires.distances_len in let t = c.loop-v-test.true in omega arith in (
             subst (Partly m k (i + 1)) (sym w.distances-is) (partly_set m k low i ds (k + 1) room inv.0 (sym new)),
             λ z. absurd (both_ways c.if-distances-v.grew z w.grew-is),
           )

@@ -15,7 +15,7 @@ at-hand ps qs i e l = subst (Among (get_or ps i 0)) e (among_get_d ps i 0 l)
 
 pub bounds-distances-u : goal.bounds-distances-u
 bounds-distances-u c =
-    c.requires.1 _ (at-hand c.ports-u-items.result.now (neighbours c.args.node.now) c.loop-u.u-index c.ports-u-items.ensures c.loop-u-test.true)
+    c.requires.by_index _ (at-hand c.ports-u-items.result.now (neighbours c.args.node.now) c.loop-u.u-index c.ports-u-items.ensures c.loop-u-test.true)
 
 pub returns-then-distances-u : goal.returns-then-distances-u
 returns-then-distances-u c =

@@ -1,5 +1,5 @@
 use Rattle.std.proofs.Common.{length}
 use Rattle.text.proofs.field.+fields_size.Given as goal
 
-abbrev pub decreases-fields-size : goal.decreases-fields-size
-decreases-fields-size l = length l.fields.now
+abbrev pub decreases-fields_size : goal.decreases-fields_size
+decreases-fields_size l = length l.fields.now

@@ -5,21 +5,21 @@ use Rattle.text.specs.FieldsLemmas.{line_none, line_one, line_more, length_more}
 use Rattle.text.proofs.Pages.{put_none, put_three}
 use Rattle.text.proofs.field.+put_fields.Goals as goal
 
-pub put-field-requires : goal.put-field-requires
-put-field-requires t c =
+pub put_field-requires : goal.put_field-requires
+put_field-requires t c =
     omega (arith, ap length (line_one c.args.fields.now c.only-item.result (omega (arith, ltb-false)) (omega (arith, ltb-true)) c.only-item.is))
 
-pub put-field-mid-requires : goal.put-field-mid-requires
-put-field-mid-requires t c = omega (arith, length_more c.args.fields.now c.first-item.result (omega (arith, ltb-false)) c.first-item.is)
+pub put_field-mid-requires : goal.put_field-mid-requires
+put_field-mid-requires t c = omega (arith, length_more c.args.fields.now c.first-item.result (omega (arith, ltb-false)) c.first-item.is)
 
 pub bounds-page-mid : goal.bounds-page-mid
 bounds-page-mid t c = omega (arith, length_more c.args.fields.now c.first-item.result (omega (arith, ltb-false)) c.first-item.is)
 
-pub overflow-add-mid : goal.overflow-add-mid
-overflow-add-mid t c = omega (arith, length_more c.args.fields.now c.first-item.result (omega (arith, ltb-false)) c.first-item.is)
+pub overflow_add-mid : goal.overflow_add-mid
+overflow_add-mid t c = omega (arith, length_more c.args.fields.now c.first-item.result (omega (arith, ltb-false)) c.first-item.is)
 
-pub put-fields-requires : goal.put-fields-requires
-put-fields-requires t c =
+pub put_fields-requires : goal.put_fields-requires
+put_fields-requires t c =
     let l = c.args.fields.now in
     let some : 2 ≤ length l = omega (arith, ltb-false) in
     (search rules, simp length-set (omega (arith, length_more l c.first-item.result some c.first-item.is)))
@@ -27,12 +27,12 @@ put-fields-requires t c =
 pub returns-in-empty : goal.returns-in-empty
 returns-in-empty t c =
     let e = line_none c.args.fields.now (omega (arith, ltb-true)) in
-    (omega (arith, ap length e), sym (put_none c.args.at _ c.args.page.now e))
+    record { value = omega (arith, ap length e); page_after = sym (put_none c.args.at _ c.args.page.now e) }
 
 pub returns-in-len1 : goal.returns-in-len1
 returns-in-len1 t c =
     let e = line_one c.args.fields.now c.only-item.result (omega (arith, ltb-false)) (omega (arith, ltb-true)) c.only-item.is in
-    (omega (arith, ap length e), c.put-field.ensures.1 ∙ ap (λ (bs : List ℕ). put c.args.at bs c.args.page.now) (sym e))
+    record { value = omega (arith, ap length e); page_after = c.put_field.ensures.page_after ∙ ap (λ (bs : List ℕ). put c.args.at bs c.args.page.now) (sym e) }
 
 pub returns-in-len1-up : goal.returns-in-len1-up
 returns-in-len1-up t c =
@@ -42,11 +42,8 @@ returns-in-len1-up t c =
     let k = length_more l c.first-item.result some c.first-item.is in
     let at = c.args.at in
     let page = c.args.page.now in
-    let one = c.put-field-mid.ensures.0 in
-    let two = c.put-fields.ensures.0 in
-    let fits : at + length (line_of l) ≤ length page = omega arith in (
-      omega arith,
-      put_three at c.put-field-mid.result 59 (field_of c.first-item.result) _ page c.put-field-mid.new.page c.put-fields.new.page
-          one (rw e at fits) c.put-field-mid.ensures.1 c.put-fields.ensures.1
-          ∙ ap (λ (bs : List ℕ). put at bs page) (sym e),
-    )
+    let one = c.put_field-mid.ensures.value in
+    let two = c.put_fields.ensures.value in
+    let fits : at + length (line_of l) ≤ length page = omega arith in record { value = omega arith; page_after = put_three at c.put_field-mid.result 59 (field_of c.first-item.result) _ page c.put_field-mid.new.page c.put_fields.new.page
+          one (rw e at fits) c.put_field-mid.ensures.page_after c.put_fields.ensures.page_after
+          ∙ ap (λ (bs : List ℕ). put at bs page) (sym e) }

@@ -9,12 +9,12 @@ use Rattle.text.proofs.lines.put_lines.Goals as goal
 pub loop-line-init : goal.loop-line-init
 loop-line-init g c = (sym (add-zero c.args.at), sym (put_none c.args.at [] c.args.page.now refl))
 
-pub returns-in-default : goal.returns-in-default
-returns-in-default g c =
+pub returns-in_default : goal.returns-in_default
+returns-in_default g c =
     let p = piece g.L.WriteLine.bytes c.args.lines.now c.loop-line.line-index c.line-item.result c.loop-line-test.true c.line-item.is in
     let e = c.loop-line.invariant.0 in
     let k = c.loop-line.auto.page in
-    let over = c.in-default.ensures.0 in
+    let over = c.in_default.ensures.0 in
     absurd (omega arith)
 
 pub bounds-page-after : goal.bounds-page-after

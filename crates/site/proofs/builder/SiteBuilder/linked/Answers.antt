@@ -15,8 +15,8 @@ has-requires c =
     let l : a < vec_len s.nodes = let p = c.requires.0 in let q = c.requires.1 in omega arith in
     subst (λ (d : Node). d.degree ≤ 8) (sym (entry_read (vec_items s.nodes) a (vec_len s.nodes) c.index.result.now c.index.ensures l s.nodes.ok.0)) (s.roomy a l).0
 
-pub overflow-cast-b : goal.overflow-cast-b
-overflow-cast-b c = let n = (drawn c.args.self.now).limit in let p = c.requires.1 in omega arith
+pub overflow_cast-b : goal.overflow_cast-b
+overflow_cast-b c = let n = (drawn c.args.self.now).limit in let p = c.requires.1 in omega arith
 
 pub returns : goal.returns
 returns c =

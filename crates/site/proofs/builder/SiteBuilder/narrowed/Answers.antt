@@ -21,16 +21,16 @@ limit b = (drawn_from (draft b) b.drawn).limit
 cut : (a n k : ℕ) → n ≤ k → a + (k - n) ≡ k → a ≡ n
 cut a n k le e = omega arith
 
-pub overflow-cast-result : goal.overflow-cast-result
-overflow-cast-result c =
+pub overflow_cast-result : goal.overflow_cast-result
+overflow_cast-result c =
     let lim = limit c.args.self in
     let low = c.requires.some in
     let fits = c.requires.fewer in
     let root = c.requires.rooted in
     omega arith
 
-pub invariant-of-result : goal.invariant-of-result
-invariant-of-result c =
+pub invariant_of-result : goal.invariant_of-result
+invariant_of-result c =
     let b = c.args.self in
     let n = c.args.nodes in
     let table = c.truncate.new.self in

@@ -13,5 +13,5 @@ returns c =
     let lt : v < vec_len s.nodes = let a = c.len.ensures in let b = s.spaced in let d = c.if-v-len.false in omega arith in
     let e : c.index.result.now ≡ distance (model s) v =
     get_or_read_under (vec_items s.distances) v (vec_len s.distances) c.index.result.now 0 c.index.ensures (let b = s.spaced in omega arith) s.distances.ok.0
-    ∙ s.decreases v lt in
+    ∙ s.measured v lt in
     (lt, subst (Distance (model s) v) (sym e) (distance_is (model s) (proper s) v lt), e)

@@ -2,8 +2,8 @@ use Rattle.std.proofs.Common.{◌/◌, arith}
 use Rattle.text.specs.DigitsLemmas.{one_digit, more_digits, few_digits}
 use Rattle.text.proofs.number.calls.+count_digits.Goals as goal
 
-pub overflow-add-result : goal.overflow-add-result
-overflow-add-result t c = omega (arith, few_digits (c.args.n / 10) (omega arith))
+pub overflow_add-result : goal.overflow_add-result
+overflow_add-result t c = omega (arith, few_digits (c.args.n / 10) (omega arith))
 
 pub returns-then-n-lt10 : goal.returns-then-n-lt10
 returns-then-n-lt10 t c = omega (arith, one_digit c.args.n (omega arith))

@@ -17,9 +17,9 @@ pub returns-then-k-rest : goal.returns-then-k-rest
 returns-then-k-rest c =
     let xs = c.args.self.now.src.now in
     let i = c.args.self.now.at in
-    let k = c.line-end-k.result in
+    let k = c.line_end-k.result in
     let e = take_rest xs i in
-    let none = rw e at c.line-end-k.ensures.before in
+    let none = rw e at c.line_end-k.ensures.before in
     let over : length (drop i xs) ≤ k = rw e at c.if-k-rest.true in
     (subst (Lacks 10) (take_all k (drop i xs) over) none, refl)
 
@@ -27,9 +27,9 @@ pub returns : goal.returns
 returns c =
     let xs = c.args.self.now.src.now in
     let i = c.args.self.now.at in
-    let k = c.line-end-k.result in
+    let k = c.line_end-k.result in
     let e = take_rest xs i in
-    let none = rw e at c.line-end-k.ensures.before in
+    let none = rw e at c.line_end-k.ensures.before in
     let lt : k < length (drop i xs) = rw e at c.if-k-rest.false in
-    let found = rw e at c.line-end-k.ensures.found in
+    let found = rw e at c.line_end-k.ensures.found in
     (rw (part xs i k) (cut xs i k lt (found lt)), rw (part xs i k) none, refl)
