@@ -30,7 +30,7 @@ no_stray n names all t =
     omega arith
 
 -- what `contains` answers
-pub contains_decides : (names : List ℕ) (v : ℕ) (r : Bool) → IsAnyAnswer (λ y t. Decides t (y ≡ v)) names r → Decides r (Among v names)
+pub contains_decides : (names : List ℕ) (v : ℕ) (r : Bool) → IsAnyAnswer (λ y t. nat_eq y v ≡ t) names r → Decides r (Among v names)
 contains_decides names v r h =
     let d = has-from-contains nat_eq Decides-eqb names v r h in
     (λ e. let t = d.0 e in subst (λ (z : ℕ). Among z names) (t.2 0) (among_get_d names t.0 0 t.1), λ m. d.1 (let t = among_place v names m in (t.0, t.1, t.2)))

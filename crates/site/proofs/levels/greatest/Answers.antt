@@ -1,6 +1,6 @@
 use Rattle.std.proofs.Common.{◌≤◌, get_or, refl, inl, inr, arith, below_more}
 use Rattle.site.proofs.levels.greatest.Goals as goal
-use Rattle.site.proofs.levels.greatest.Goals.{Then-d-top, Else-d-top}
+use Rattle.site.proofs.levels.greatest.Goals.{then-d-top, else-d-top}
 
 pub loop-d-init : goal.loop-d-init
 loop-d-init c = (λ v l. absurd (omega arith), inl refl)
@@ -12,11 +12,11 @@ loop-d-preserved c =
     let top = c.if-d-top.top in
     let inv = c.loop-d.invariant in
     elim c.if-d-top.branch [
-      | Then-d-top w ↦
+      | then-d-top w ↦
           let e = w.top-is in
           let t = w.if-d-top.true in
           (below_more (λ v. get_or ds v 0 ≤ top) i (λ v l. let h = inv.0 v l in omega arith) (omega arith), inr (i, omega arith, omega arith))
-      | Else-d-top w ↦
+      | else-d-top w ↦
           let e = w.top-is in
           let t = w.if-d-top.false in (
             below_more (λ v. get_or ds v 0 ≤ top) i (λ v l. let h = inv.0 v l in omega arith) (omega arith),

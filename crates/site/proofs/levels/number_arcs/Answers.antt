@@ -14,7 +14,7 @@ pub overflow_cast-total : goal.overflow_cast-total
 overflow_cast-total c = let f = few c in omega arith
 
 pub overflow_add-total : goal.overflow_add-total
-overflow_add-total c = let f = few c in let i = c.loop-v.invariant.0 in let l = c.requires.2 in omega arith
+overflow_add-total c = let f = few c in let i = c.loop-v.invariant.0 in let l = c.requires.nodes_len_bound in omega arith
 
 pub loop-v-preserved : goal.loop-v-preserved
 loop-v-preserved c =

@@ -34,7 +34,15 @@ invariant_of-self c =
     let table = table_push ns n ls a b da db o.0 o.1 len s.roomy s.table r.0 r.1 ea eb ms e in
     let room : 1024 ≤ vec_capacity c.push_reserved.new.self = let k = c.push_reserved.ensures.capacity in let l = s.room in omega arith in
     let m = ap (λ (xs : List (ℕ × ℕ)). record { nodes = n; root = s.root; links = xs }) (sym e) in
-    (∣ subst Drawn m (free_drawn (draft s) a b c.requires (drawn s)) ∣₁, (roomy, (table, (room, (s.arced, (s.spaced, (s.blank, tt)))))))
+    record {
+      drawn = ∣ subst Drawn m (free_drawn (draft s) a b c.requires (drawn s)) ∣₁;
+      roomy = roomy;
+      table = table;
+      room = room;
+      arced = s.arced;
+      spaced = s.spaced;
+      blank = s.blank;
+    }
 
 pub returns : goal.returns
 returns c =

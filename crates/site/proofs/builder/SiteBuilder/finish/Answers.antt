@@ -29,7 +29,11 @@ number_arcs-requires c =
     let b = c.deref_mut-2.ensures.len in
     let e = s.arced in
     let z = (drawn s).limit in
-    (omega arith, subst (λ (ns : List Node). Sound ns (length ns)) (sym c.deref-3.ensures.value) (subst (Sound (vec_items s.nodes)) s.nodes.ok.0 (sound s)), omega arith)
+    record {
+      first_arcs_len = omega arith;
+      sound = subst (λ (ns : List Node). Sound ns (length ns)) (sym c.deref-3.ensures.value) (subst (Sound (vec_items s.nodes)) s.nodes.ok.0 (sound s));
+      nodes_len_bound = omega arith;
+    }
 
 -- where the search is done: the length of the marks, the marks, and their greatest
 length-marks : (c : goal.After-greatest-height) → length c.deref-2.result.now ≡ vec_len c.args.self.nodes
@@ -65,12 +69,23 @@ invariant_of-result c =
     let measured = subst (Measured m) d.deref-2.ensures.value (all_measured m (drawn s) es top (length-marks d) (marks d) most taken low) in
     let highest = top_height m (drawn s) es top (length-marks d) (marks d) most taken low in
     let d0 = drawn s in
-    (∣ proper ∣₁, (d0.some, (d0.limit, (s.roomy, (s.table, (s.arced, (s.spaced, (arcs, (measured, (highest, tt))))))))))
+    record {
+      proper = ∣ proper ∣₁;
+      some = d0.some;
+      few = d0.limit;
+      roomy = s.roomy;
+      table = s.table;
+      arced = s.arced;
+      spaced = s.spaced;
+      numbered = arcs;
+      measured = measured;
+      highest = highest;
+    }
 
 pub returns : goal.returns
 returns c =
     let d = (goal.at.returns c).After-greatest-height in
     let s = c.args.self in
     let top = d.greatest-height.result in
-    let low : top < 65535 = let a = c.if-height.false in let b = d.greatest-height.ok in omega arith in
+    let low : top < 65535 = let a = c.if-height.false in let b = d.greatest-height.type_inv in omega arith in
     (refl, finished (draft s) (drawn s) d.deref-2.result.now top (length-marks d) (marks d) d.greatest-height.ensures.most d.greatest-height.ensures.taken low)

@@ -51,7 +51,15 @@ invariant_of-result c =
     let arced : vec_len c.truncate-2.new.self ≡ vec_len table = omega arith in
     let spaced : vec_len c.truncate-3.new.self ≡ vec_len table = omega arith in
     let unvisited : Unvisited (vec_len table) (vec_items c.truncate-3.new.self) = λ v l. c.truncate-3.ensures.by_index v 0 (omega arith) ∙ b.blank v (omega arith) in
-    (∣ drawn ∣₁, (roomy, (tabled, (b.room, (arced, (spaced, (unvisited, tt)))))))
+    record {
+      drawn = ∣ drawn ∣₁;
+      roomy = roomy;
+      table = tabled;
+      room = b.room;
+      arced = arced;
+      spaced = spaced;
+      blank = unvisited;
+    }
 
 pub returns : goal.returns
 returns c =

@@ -28,4 +28,12 @@ invariant_of-result c =
     let roomy : Roomy (vec_items table) (vec_len table) = λ v l. subst (λ (d : Node). (d.degree ≤ 8) × (length d.ports ≡ 8)) (sym (at v (omega arith))) (omega arith, refl) in
     let tabled : Table (vec_items table) (vec_len table) ls = λ v l. ap neighbours (at v (omega arith)) ∙ ap (λ (xs : List Link). ports_of (map ends xs) v) (sym none) in
     let unreached : Unvisited (vec_len table) ds = λ v l. ap (λ (xs : List ℕ). get_or xs v 0) far ∙ get_or-replicate n v 65535 0 (omega arith) in
-    (∣ drawn ∣₁, (roomy, (tabled, (links.capacity, (arced, (spaced, (unreached, tt)))))))
+    record {
+      drawn = ∣ drawn ∣₁;
+      roomy = roomy;
+      table = tabled;
+      room = links.capacity;
+      arced = arced;
+      spaced = spaced;
+      blank = unreached;
+    }
