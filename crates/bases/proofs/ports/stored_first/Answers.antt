@@ -5,8 +5,8 @@ use Rattle.bases.specs.Blocks.{register}
 use Rattle.bases.specs.Sizes.{port_low}
 use Rattle.bases.proofs.ports.stored_first.Goals as goal
 
-pub overflow-add-result : goal.overflow-add-result
-overflow-add-result c =
+pub overflow_add-result : goal.overflow_add-result
+overflow_add-result c =
     let s = c.args.site.now in
     let u = c.in-Some.u in
     let a = (first_among (λ w. eqb (register c.args.block.now w) c.args.value) c.ports.result.now u (sym c.in-Some.ensures)).0 in

@@ -12,11 +12,11 @@ drop-next {X} xs ys i e = sym (drop-drop 1 i xs) ∙ ap (λ (l : List X). drop 1
 pub loop-i-init : goal.loop-i-init
 loop-i-init g c = ((λ k h. (h, front_none g.R.WriteLine.bytes g.R.SheetLine.checks k (spot c.args.rd.now))), refl)
 
-pub returns-in-err-x : goal.returns-in-err-x
-returns-in-err-x g c =
+pub returns-in_err-x : goal.returns-in_err-x
+returns-in_err-x g c =
     let i = c.loop-i.i in
-    let p = err_from_is_err_and c.from-residual.result c.from-residual.ensures.1 in
-    let why = c.in-err-x.ensures in
+    let p = err_from_is_err_and c.from_residual.result c.from_residual.ensures.1 in
+    let why = c.in_err-x.ensures in
     rw (p.1, p.2) (record {
       short = λ few. absurd (omega arith);
       read = λ room k h. let q = c.loop-i.invariant.0 k h in (i, omega arith, c.loop-i.invariant.1, (spot c.loop-i.rd, q.1, why.0, why.1), q.0);
@@ -26,8 +26,8 @@ pub returns-in-Err : goal.returns-in-Err
 returns-in-Err g c =
     let i = c.loop-i.i in
     let list = c.loop-i.list in
-    let x = c.in-ok-x.x in
-    let got = c.in-ok-x.ensures in
+    let x = c.in_ok-x.x in
+    let got = c.in_ok-x.ensures in
     record {
       short = λ few. absurd (omega arith);
       read = λ room k h.
@@ -40,8 +40,8 @@ pub loop-i-preserved : goal.loop-i-preserved
 loop-i-preserved g c =
     let i = c.loop-i.i in
     let list = c.loop-i.list in
-    let x = c.in-ok-x.x in
-    let got = c.in-ok-x.ensures in
+    let x = c.in_ok-x.x in
+    let got = c.in_ok-x.ensures in
     let lt : i < length list = omega (arith, c.loop-i.auto.list) in
     let e = take_more_set list i x lt in (
       (λ k h.

@@ -5,15 +5,15 @@ use Rattle.sheet.specs.Sheets.{lists}
 use Rattle.sheet.proofs.Checked.{lines_at_faults, lines_at_links, lines_checked}
 use Rattle.sheet.proofs.check.check_lines.Goals as goal
 
-pub returns-in-err-check-links : goal.returns-in-err-check-links
-returns-in-err-check-links c =
-    let p = err_from_is_err_and c.from-residual.result c.from-residual.ensures.1 in
+pub returns-in_err-check_links : goal.returns-in_err-check_links
+returns-in_err-check_links c =
+    let p = err_from_is_err_and c.from_residual.result c.from_residual.ensures.1 in
     let l = lists c.args.links.now c.args.faults.now c.args.turns.now in
     rw (p.1, p.2) (lines_at_links c.args.ns l c.requires.links c.requires.faults c.requires.turns c.in-err-check-links.field-0.0 c.in-err-check-links.ensures)
 
-pub returns-in-err-check-body : goal.returns-in-err-check-body
-returns-in-err-check-body c =
-    let p = err_from_is_err_and c.from-residual-in-err-check-body.result c.from-residual-in-err-check-body.ensures.1 in
+pub returns-in_err-check_body : goal.returns-in_err-check_body
+returns-in_err-check_body c =
+    let p = err_from_is_err_and c.from_residual-in_err-check_body.result c.from_residual-in_err-check_body.ensures.1 in
     let l = lists c.args.links.now c.args.faults.now c.args.turns.now in
     let a = c.get.ensures in
     let b = c.get-2.ensures in
@@ -24,4 +24,4 @@ returns c =
     let l = lists c.args.links.now c.args.faults.now c.args.turns.now in
     let a = c.get.ensures in
     let b = c.get-2.ensures in
-    lines_checked c.args.ns l c.requires.links c.requires.faults c.requires.turns c.in-ok-check-links.ensures (c.in-ok-check-body.ensures.checked (places c.args.ns) (omega arith)) c.check-turns.result c.check-turns.ensures
+    lines_checked c.args.ns l c.requires.links c.requires.faults c.requires.turns c.in-ok-check-links.ensures (c.in-ok-check-body.ensures.checked (places c.args.ns) (omega arith)) c.check_turns.result c.check_turns.ensures

@@ -11,9 +11,9 @@ use Rattle.sheet.proofs.Checked.{links_apart, links_stopped}
 use Rattle.sheet.proofs.check.check_links.Goals as goal
 use Rattle.sheet.proofs.check.check_links.Goals.{in-Ok, in-Err}
 
-pub returns-in-err-check-body : goal.returns-in-err-check-body
-returns-in-err-check-body c =
-    let p = err_from_is_err_and c.from-residual.result c.from-residual.ensures.1 in
+pub returns-in_err-check_body : goal.returns-in_err-check_body
+returns-in_err-check_body c =
+    let p = err_from_is_err_and c.from_residual.result c.from_residual.ensures.1 in
     let ns = c.args.ns in
     rw (p.1, p.2) (links_stopped ns c.args.links.now c.requires.count c.in-err-check-body.field-0.0 (c.in-err-check-body.ensures.checked ns.nodes.value c.requires.draft))
 
@@ -22,7 +22,7 @@ returns c =
     let ns = c.args.ns in
     let ls = c.args.links.now in
     let good = c.in-ok-check-body.ensures.checked ns.nodes.value c.requires.draft in
-    let held : draft c.check-body.new.into ≡ site_of ns.nodes.value ls = c.in-ok-check-body.ensures.held ns.nodes.value c.requires.draft in
+    let held : draft c.check_body.new.into ≡ site_of ns.nodes.value ls = c.in-ok-check-body.ensures.held ns.nodes.value c.requires.draft in
     let P : Result (Unit {0}) SheetFault → Type 0 = LinksChecked ns ls in
     elim c.match-finish.branch [
       | in-Ok w ↦ subst P (sym w.result-is) (good, (subst Proper held w.in-Ok.ensures.1).reached)

@@ -5,9 +5,9 @@ use Rattle.sheet.proofs.Checked.{all_named, turns_missed, turns_stopped}
 use Rattle.sheet.proofs.Names.{Missed, told_missed}
 use Rattle.sheet.proofs.check.check_turns.Goals as goal
 
-pub returns-in-err-check-body : goal.returns-in-err-check-body
-returns-in-err-check-body c =
-    let p = err_from_is_err_and c.from-residual.result c.from-residual.ensures.1 in
+pub returns-in_err-check_body : goal.returns-in_err-check_body
+returns-in_err-check_body c =
+    let p = err_from_is_err_and c.from_residual.result c.from_residual.ensures.1 in
     let ns = c.args.ns in
     rw (p.1, p.2) (turns_stopped ns c.args.turns.now c.args.line c.requires.count c.in-err-check-body.field-0.0 (c.in-err-check-body.ensures.checked ns.nodes.value c.get-n.ensures))
 

@@ -13,17 +13,17 @@ use Rattle.sheet.proofs.Bodies.{body_passed, body_stopped}
 use Rattle.sheet.proofs.Stops.{links_pass, links_stop, links_unreached}
 use Rattle.sheet.proofs.stages.read_links.Goals as goal
 
-pub returns-in-err-read-body : goal.returns-in-err-read-body
-returns-in-err-read-body c =
-    let p = err_from_is_err_and c.from-residual.result c.from-residual.ensures.1 in
+pub returns-in_err-read_body : goal.returns-in_err-read_body
+returns-in_err-read_body c =
+    let p = err_from_is_err_and c.from_residual.result c.from_residual.ensures.1 in
     let ns = c.args.ns in
     let n = c.get-count.ensures in
-    let kept = c.read-body.auto.list in
+    let kept = c.read_body.auto.list in
     let few = c.requires.few in
-    let e = c.in-err-read-body.field-0.0 in
-    let h = c.in-err-read-body.ensures.read (omega arith) ns.nodes.value c.requires.draft in
+    let e = c.in_err-read_body.field-0.0 in
+    let h = c.in_err-read_body.ensures.read (omega arith) ns.nodes.value c.requires.draft in
     rw (p.1, p.2) (record {
-      read = links_stop ns (spot c.args.rd.now) e (body_stopped link_bytes link_rules ns.nodes.value c.get-count.result ns.links.value (spot c.args.rd.now) (spot c.read-body.new.rd) _ c.read-body.new.list (λ xs. draft c.read-body.new.into ≡ site_of ns.nodes.value xs) e n (omega arith) h);
+      read = links_stop ns (spot c.args.rd.now) e (body_stopped link_bytes link_rules ns.nodes.value c.get-count.result ns.links.value (spot c.args.rd.now) (spot c.read_body.new.rd) _ c.read_body.new.list (λ xs. draft c.read_body.new.into ≡ site_of ns.nodes.value xs) e n (omega arith) h);
       site = tt;
     })
 
@@ -32,13 +32,13 @@ returns-in-Ok c =
     let ns = c.args.ns in
     let n = c.get-count.ensures in
     let few = c.requires.few in
-    let list = c.read-body.new.list in
-    let body = body_passed link_bytes link_rules ns.nodes.value c.get-count.result ns.links.value (spot c.args.rd.now) (spot c.read-body.new.rd) _ list (λ xs. draft c.read-body.new.into ≡ site_of ns.nodes.value xs) n (c.in-ok-read-body.ensures.read (omega arith) ns.nodes.value c.requires.draft) in
-    let held : draft c.read-body.new.into ≡ site_of ns.nodes.value (take ns.links.value list) =
-    (c.in-ok-read-body.ensures.read (omega arith) ns.nodes.value c.requires.draft).2 ∙ ap (λ (k : ℕ). site_of ns.nodes.value (take k list)) n in
+    let list = c.read_body.new.list in
+    let body = body_passed link_bytes link_rules ns.nodes.value c.get-count.result ns.links.value (spot c.args.rd.now) (spot c.read_body.new.rd) _ list (λ xs. draft c.read_body.new.into ≡ site_of ns.nodes.value xs) n (c.in_ok-read_body.ensures.read (omega arith) ns.nodes.value c.requires.draft) in
+    let held : draft c.read_body.new.into ≡ site_of ns.nodes.value (take ns.links.value list) =
+    (c.in_ok-read_body.ensures.read (omega arith) ns.nodes.value c.requires.draft).2 ∙ ap (λ (k : ℕ). site_of ns.nodes.value (take k list)) n in
     let fin = c.in-Ok.ensures in
     record {
-      read = links_pass ns (spot c.args.rd.now) (take ns.links.value list) (spot c.read-body.new.rd) body (subst Proper held fin.1).reached;
+      read = links_pass ns (spot c.args.rd.now) (take ns.links.value list) (spot c.read_body.new.rd) body (subst Proper held fin.1).reached;
       site = fin.0 ∙ held;
     }
 
@@ -47,12 +47,12 @@ returns-in-Err c =
     let ns = c.args.ns in
     let n = c.get-count.ensures in
     let few = c.requires.few in
-    let list = c.read-body.new.list in
+    let list = c.read_body.new.list in
     let p = spot c.args.rd.now in
-    let q = spot c.read-body.new.rd in
-    let body = body_passed link_bytes link_rules ns.nodes.value c.get-count.result ns.links.value p q _ list (λ xs. draft c.read-body.new.into ≡ site_of ns.nodes.value xs) n (c.in-ok-read-body.ensures.read (omega arith) ns.nodes.value c.requires.draft) in
-    let held : draft c.read-body.new.into ≡ site_of ns.nodes.value (take ns.links.value list) =
-    (c.in-ok-read-body.ensures.read (omega arith) ns.nodes.value c.requires.draft).2 ∙ ap (λ (k : ℕ). site_of ns.nodes.value (take k list)) n in
+    let q = spot c.read_body.new.rd in
+    let body = body_passed link_bytes link_rules ns.nodes.value c.get-count.result ns.links.value p q _ list (λ xs. draft c.read_body.new.into ≡ site_of ns.nodes.value xs) n (c.in_ok-read_body.ensures.read (omega arith) ns.nodes.value c.requires.draft) in
+    let held : draft c.read_body.new.into ≡ site_of ns.nodes.value (take ns.links.value list) =
+    (c.in_ok-read_body.ensures.read (omega arith) ns.nodes.value c.requires.draft).2 ∙ ap (λ (k : ℕ). site_of ns.nodes.value (take k list)) n in
     let fin = c.in-Err.ensures in
     let stop = links_unreached ns p (take ns.links.value list) q body (subst (λ (m : Model). Reached m → ⊥) held fin.1) in
     record {

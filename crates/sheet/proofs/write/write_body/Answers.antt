@@ -11,12 +11,12 @@ loop-x-init g c =
     let page = c.args.page.now in
     (sym (add-zero at), sym (ap (λ (k : ℕ). take at page ++ drop k page) (add-zero at) ∙ take-append-drop at page))
 
-pub returns-in-default : goal.returns-in-default
-returns-in-default g c =
+pub returns-in_default : goal.returns-in_default
+returns-in_default g c =
     let p = piece g.R.WriteLine.bytes c.args.list.now c.loop-x.x-index c.x-item.result c.loop-x-test.true c.x-item.is in
     let e = c.loop-x.invariant.0 in
     let k = c.loop-x.auto.page in
-    let over = c.in-default.ensures.0 in
+    let over = c.in_default.ensures.0 in
     absurd (omega arith)
 
 pub bounds-page-after : goal.bounds-page-after

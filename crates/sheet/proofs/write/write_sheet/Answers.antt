@@ -29,10 +29,10 @@ few xs ys k n e f lt = let l = ap length e ∙ length-take k xs in omega arith
 full : {X : Type 0} (xs ys : List X) (k n m : ℕ) → ys ≡ take k xs → k ≡ n → m ≤ length xs → n ≤ m → length ys ≡ n
 full xs ys k n m e f room le = let l = ap length e ∙ length-take-le k xs (omega arith) in omega arith
 
-pub sheet-size-size-requires : goal.sheet-size-size-requires
-sheet-size-size-requires c =
+pub sheet_size-size-requires : goal.sheet_size-size-requires
+sheet_size-size-requires c =
     let ns = c.args.ns in
-    let four = ap length c.heads-of-heads.ensures in
+    let four = ap length c.heads_of-heads.ensures in
     record {
       heads = omega arith;
       links = few c.args.links.now _ c.get.result ns.links.value c.front-ls.ensures c.get.ensures ns.links.five;
@@ -40,8 +40,8 @@ sheet-size-size-requires c =
       turns = few c.args.turns.now _ c.get-3.result ns.turns.value c.front-ts.ensures c.get-3.ensures ns.turns.five;
     }
 
-pub check-sheet-requires : goal.check-sheet-requires
-check-sheet-requires c =
+pub check_sheet-requires : goal.check_sheet-requires
+check_sheet-requires c =
     let ns = c.args.ns in (
       (λ le. full c.args.links.now _ c.get.result ns.links.value 1024 c.front-ls.ensures c.get.ensures (omega arith) le),
       (λ le. full c.args.faults.now _ c.get-2.result ns.faults.value 4096 c.front-fs.ensures c.get-2.ensures (omega arith) le),
@@ -52,16 +52,16 @@ pub returns-then-size-gt65536 : goal.returns-then-size-gt65536
 returns-then-size-gt65536 c =
     let at = (goal.at.returns-then-size-gt65536 c).After-front-ts in
     record {
-      wrote = wrote_large c.args.ns (lists c.args.links.now c.args.faults.now c.args.turns.now) _ c.heads-of-heads.result (same at) c.heads-of-heads.ensures (room at) c.sheet-size-size.result c.sheet-size-size.ensures c.args.page.now c.if-size-gt65536.true;
+      wrote = wrote_large c.args.ns (lists c.args.links.now c.args.faults.now c.args.turns.now) _ c.heads_of-heads.result (same at) c.heads_of-heads.ensures (room at) c.sheet_size-size.result c.sheet_size-size.ensures c.args.page.now c.if-size-gt65536.true;
       returns = tt;
     }
 
-pub returns-in-err-check-sheet : goal.returns-in-err-check-sheet
-returns-in-err-check-sheet c =
-    let p = err_from_is_err_and c.from-residual.result c.from-residual.ensures.1 in
-    let at = (goal.at.returns-in-err-check-sheet c).After-front-ts in
+pub returns-in_err-check_sheet : goal.returns-in_err-check_sheet
+returns-in_err-check_sheet c =
+    let p = err_from_is_err_and c.from_residual.result c.from_residual.ensures.1 in
+    let at = (goal.at.returns-in_err-check_sheet c).After-front-ts in
     rw (p.1, p.2) (record {
-      wrote = wrote_declined c.args.ns (lists c.args.links.now c.args.faults.now c.args.turns.now) _ c.heads-of-heads.result (same at) c.heads-of-heads.ensures (room at) c.sheet-size-size.result c.sheet-size-size.ensures c.args.page.now c.in-err-check-sheet.field-0.0 c.if-size-gt65536.false c.in-err-check-sheet.ensures;
+      wrote = wrote_declined c.args.ns (lists c.args.links.now c.args.faults.now c.args.turns.now) _ c.heads_of-heads.result (same at) c.heads_of-heads.ensures (room at) c.sheet_size-size.result c.sheet_size-size.ensures c.args.page.now c.in-err-check-sheet.field-0.0 c.if-size-gt65536.false c.in-err-check-sheet.ensures;
       returns = tt;
     })
 
@@ -69,13 +69,13 @@ pub returns-then-size-page : goal.returns-then-size-page
 returns-then-size-page c =
     let at = (goal.at.returns-then-size-page c).After-front-ts in
     record {
-      wrote = wrote_narrow c.args.ns (lists c.args.links.now c.args.faults.now c.args.turns.now) _ c.heads-of-heads.result (same at) c.heads-of-heads.ensures (room at) c.sheet-size-size.result c.sheet-size-size.ensures c.args.page.now c.if-size-gt65536.false c.if-size-page.true c.in-ok-check-sheet.ensures;
+      wrote = wrote_narrow c.args.ns (lists c.args.links.now c.args.faults.now c.args.turns.now) _ c.heads_of-heads.result (same at) c.heads_of-heads.ensures (room at) c.sheet_size-size.result c.sheet_size-size.ensures c.args.page.now c.if-size-gt65536.false c.if-size-page.true c.in-ok-check-sheet.ensures;
       returns = tt;
     }
 
 pub returns : goal.returns
 returns c =
     let at = (goal.at.returns c).After-front-ts in
-    let w = wrote_all c.args.ns (lists c.args.links.now c.args.faults.now c.args.turns.now) _ c.heads-of-heads.result (same at) c.heads-of-heads.ensures (room at) c.sheet-size-size.result c.sheet-size-size.ensures c.args.page.now
-    c.put-sheet.result c.put-sheet.new.page c.if-size-gt65536.false c.if-size-page.false c.in-ok-check-sheet.ensures c.put-sheet.ensures.place c.put-sheet.ensures.page in
+    let w = wrote_all c.args.ns (lists c.args.links.now c.args.faults.now c.args.turns.now) _ c.heads_of-heads.result (same at) c.heads_of-heads.ensures (room at) c.sheet_size-size.result c.sheet_size-size.ensures c.args.page.now
+    c.put_sheet.result c.put_sheet.new.page c.if-size-gt65536.false c.if-size-page.false c.in-ok-check-sheet.ensures c.put_sheet.ensures.place c.put_sheet.ensures.page in
     record { wrote = w.0; returns = w.1 }

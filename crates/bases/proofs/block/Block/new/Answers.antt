@@ -3,7 +3,10 @@ use Rattle.bases.specs.Width.{Narrow}
 use Rattle.bases.specs.Widths.{narrow_replicate}
 use Rattle.bases.proofs.block.Block.new.Goals as goal
 
-pub invariant-of-result : goal.invariant-of-result
-invariant-of-result c =
-    let e = c.in-ok-values.ensures.items-if-clones-equal (λ y e. e) in
-    (c.in-ok-values.values.ok.0 ∙ ap length e, (subst Narrow (sym e) (narrow_replicate 256 0 (omega arith)), tt))
+pub invariant_of-result : goal.invariant_of-result
+invariant_of-result c =
+    let e = c.in_ok-values.ensures.items_if_clones_equal (λ y e. e) in
+    record {
+      full = c.in_ok-values.values.ok.0 ∙ ap length e;
+      narrow = subst Narrow (sym e) (narrow_replicate 256 0 (omega arith));
+    }

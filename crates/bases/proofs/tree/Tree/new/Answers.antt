@@ -5,5 +5,5 @@ use Rattle.bases.proofs.tree.Tree.new.Goals as goal
 
 pub returns : goal.returns
 returns c = λ m p.
-    ap₂ ◌++◌ (front_zero m p c.in-ok-distances.distances c.in-ok-distances.ensures) (front_zero m p c.in-ok-parents.parents c.in-ok-parents.ensures)
+    ap₂ ◌++◌ (front_zero m p c.in_ok-distances.distances c.in_ok-distances.ensures) (front_zero m p c.in_ok-parents.parents c.in_ok-parents.ensures)
     ∙ replicate-append-replicate m.nodes m.nodes 0

@@ -9,5 +9,5 @@ use Rattle.bases.proofs.tree.Tree.new_parent.Goals as goal
 pub returns : goal.returns
 returns c =
     let f = register c.args.self.now.distances in
-    c.stored-first.ensures
+    c.stored_first.ensures
     ∙ ap stored (parent_found (model c.args.site.now) f c.args.v c.least-near.result (λ e. c.if-v-root.false (e ∙ sym c.root.ensures)) (c.least-near.ensures ∙ ap (least f) c.ports.ensures))

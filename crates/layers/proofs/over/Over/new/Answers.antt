@@ -5,5 +5,5 @@ use Rattle.layers.proofs.over.Over.new.Goals as goal
 pub returns : goal.returns
 returns g c = record {
   plan = refl;
-  registers = λ m n l. ap (λ zs. g.P.Silent.registers c.args.below m ++ zs) (front_zero n l c.in-ok-own.own c.in-ok-own.ensures);
+  registers = λ m n l. ap (λ zs. g.P.Silent.registers c.args.below m ++ zs) (front_zero n l c.in_ok-own.own c.in_ok-own.ensures);
 }

@@ -17,4 +17,4 @@ returns-in-Some g c = λ l.
     let o = (told g.P.Silent s.below m v).parent in
     let e : o ≡ Some w = sym (ap (λ (t : Output). t.parent) c.in-Ok.ensures.1) ∙ c.in-Some.is in
     let near = (g.met.P.Silent.laws (g.P.Silent.plan s.below) m ok).near (g.P.Silent.registers s.below m) v w l (g.met.P.Silent.sized s.below m ok) e in
-    rank_some m ok v (held s.own) o w c.slot-rank.result e near c.slot-rank.ensures
+    rank_some m ok v (held s.own) o w c.slot_rank.result e near c.slot_rank.ensures

@@ -7,13 +7,13 @@ few : (ws : List ℕ) → ((i : ℕ) → Fits w64 (get_or ws i 0)) → (i : ℕ)
 few ws h i = let k : get_or ws i 0 < 2 ^ 64 = omega (arith, h i) in ones-le 64 (get_or ws i 0) k
 
 pub returns : goal.returns
-returns c = four c.args.words.now _ (at_word c.args.words.now) (λ j. omega (arith, c.type-inv.words j))
+returns c = four c.args.words.now _ (at_word c.args.words.now) (λ j. omega (arith, c.type_inv.words j))
 
-pub overflow-add-result : goal.overflow-add-result
-overflow-add-result c = let h = few c.args.words.now c.type-inv.words in omega (arith, h 0, h 1)
+pub overflow_add-result : goal.overflow_add-result
+overflow_add-result c = let h = few c.args.words.now c.type_inv.words in omega (arith, h 0, h 1)
 
-pub overflow-add-result-2 : goal.overflow-add-result-2
-overflow-add-result-2 c = let h = few c.args.words.now c.type-inv.words in omega (arith, h 0, h 1, h 2)
+pub overflow_add-result-2 : goal.overflow_add-result-2
+overflow_add-result-2 c = let h = few c.args.words.now c.type_inv.words in omega (arith, h 0, h 1, h 2)
 
-pub overflow-add-result-3 : goal.overflow-add-result-3
-overflow-add-result-3 c = let h = few c.args.words.now c.type-inv.words in omega (arith, h 0, h 1, h 2, h 3)
+pub overflow_add-result-3 : goal.overflow_add-result-3
+overflow_add-result-3 c = let h = few c.args.words.now c.type_inv.words in omega (arith, h 0, h 1, h 2, h 3)

@@ -13,4 +13,4 @@ returns c =
     let v = c.args.v in
     let e = c.nodes.ensures in
     let l : v < (model s).nodes = let q = c.if-v-nodes.false in omega arith in
-    (l, ap (with_parent plain) (c.held-node.ensures ∙ ap₂ held c.ports.ensures (c.at.ensures ∙ sym (second_read (model s) (proper s) t.distances t.parents ((model s).nodes + v) v refl l))))
+    (l, ap (with_parent plain) (c.held_node.ensures ∙ ap₂ held c.ports.ensures (c.at.ensures ∙ sym (second_read (model s) (proper s) t.distances t.parents ((model s).nodes + v) v refl l))))

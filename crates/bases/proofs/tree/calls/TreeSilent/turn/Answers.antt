@@ -10,8 +10,8 @@ returns c =
     let t = c.args.self.now in
     let e = c.nodes.ensures in
     let l : c.args.v < (model s).nodes = let q = c.if-v-nodes.false in omega arith in
-    let x = c.new-distance-distance in
-    let y = c.new-parent-parent in
+    let x = c.new_distance-distance in
+    let y = c.new_parent-parent in
     let a = c.put-moved in
     let b = c.put-adopted in
     record {

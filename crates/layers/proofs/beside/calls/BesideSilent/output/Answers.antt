@@ -8,7 +8,7 @@ pub returns : goal.returns
 returns g c =
     let s = c.args.self.now in
     let m = model c.args.site.now in
-    let one = c.in-ok-output in
-    let two = c.in-ok-other in
+    let one = c.in_ok-output in
+    let two = c.in_ok-other in
     beside_told m (means g.L.Silent s.left m) (g.L.Silent.registers s.left m) (g.R.Silent.registers s.right m) (g.met.L.Silent.sized s.left m (proper c.args.site.now))
     (means g.R.Silent s.right m) c.args.v one.output two.other one.ensures two.ensures

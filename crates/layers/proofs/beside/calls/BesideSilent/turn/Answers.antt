@@ -10,12 +10,12 @@ returns g c =
     let s = c.args.self.now in
     let m = model c.args.site.now in
     let ok = proper c.args.site.now in
-    let one = c.in-ok-moved.ensures in
-    let two = c.in-ok-joined.ensures in
+    let one = c.in_ok-moved.ensures in
+    let two = c.in_ok-joined.ensures in
     record {
       plan = same_pair one.plan two.plan;
       turned =
           beside_turned m (means g.L.Silent s.left m) (g.L.Silent.registers s.left m) (g.R.Silent.registers s.right m) (g.met.L.Silent.sized s.left m ok) (g.met.L.Silent.laws (g.L.Silent.plan s.left) m ok)
-          c.args.v c.in-ok-moved.moved c.in-ok-joined.joined (g.L.Silent.registers c.turn.new.self m) (g.R.Silent.registers c.turn-2.new.self m)
+          c.args.v c.in_ok-moved.moved c.in_ok-joined.joined (g.L.Silent.registers c.turn.new.self m) (g.R.Silent.registers c.turn-2.new.self m)
           one.turned (two.turned.2, two.turned.3) (means g.R.Silent s.right m) two.turned.1;
     }

@@ -13,6 +13,6 @@ returns g c =
     let s = c.args.self.now.layer in
     let m = model c.args.site.now in
     let v = c.args.v in
-    let h = c.in-ok-output.ensures in
+    let h = c.in_ok-output.ensures in
     layer_told m (means g.P.Silent s.below m) (g.P.Silent.registers s.below m) (front m.nodes s.own) (g.met.P.Silent.sized s.below m (proper c.args.site.now))
-    (counter m) v c.in-ok-output.output c.at.result h (c.at.ensures ∙ sym (get_or-take m.nodes (held s.own) v 0 h.0))
+    (counter m) v c.in_ok-output.output c.at.result h (c.at.ensures ∙ sym (get_or-take m.nodes (held s.own) v 0 h.0))

@@ -20,8 +20,8 @@ returns g c =
     let v = c.args.v in
     let p = means g.P.Silent s.below m in
     let after = c.turn.new.self in
-    let one = c.in-ok-moved.ensures in
-    let x = c.new-count-count in
+    let one = c.in_ok-moved.ensures in
+    let x = c.new_count-count in
     let put = c.put-counted in
     let xs = held s.own in
     let ys = held put.new.self in
@@ -33,5 +33,5 @@ returns g c =
       plan = one.plan;
       turned =
           layer_turned m p (g.P.Silent.registers s.below m) (front n s.own) (g.met.P.Silent.sized s.below m ok) (g.met.P.Silent.laws (g.P.Silent.plan s.below) m ok)
-          v c.in-ok-moved.moved put.result b (front n put.new.self) one.turned (front_changed n xs ys put.result rest put.ensures.changed) (counter m) rule;
+          v c.in_ok-moved.moved put.result b (front n put.new.self) one.turned (front_changed n xs ys put.result rest put.ensures.changed) (counter m) rule;
     }

@@ -15,7 +15,7 @@ returns g c =
     let m = model c.args.site.now in
     let n = m.nodes + arcs m in
     let v = c.args.v in
-    let h = c.in-ok-output.ensures in
+    let h = c.in_ok-output.ensures in
     let l : v < n = omega (arith, h.0) in
     layer_told m (means g.P.Silent s.below m) (g.P.Silent.registers s.below m) (front n s.own) (g.met.P.Silent.sized s.below m (proper c.args.site.now))
-    (ranker m) v c.in-ok-output.output c.at.result h (c.at.ensures ∙ sym (get_or-take n (held s.own) v 0 l))
+    (ranker m) v c.in_ok-output.output c.at.result h (c.at.ensures ∙ sym (get_or-take n (held s.own) v 0 l))

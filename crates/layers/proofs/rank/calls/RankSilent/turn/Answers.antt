@@ -20,8 +20,8 @@ returns g c =
     let p = means g.P.Silent s.below m in
     let after = c.turn.new.self in
     let t = told g.P.Silent after m in
-    let one = c.in-ok-moved.ensures in
-    let r = c.new-rank-rank in
+    let one = c.in_ok-moved.ensures in
+    let r = c.new_rank-rank in
     let put = c.put-ranked in
     let fill = c.fill-filled in
     let xs = held s.own in
@@ -35,6 +35,6 @@ returns g c =
       plan = one.plan;
       turned =
           layer_turned m p (g.P.Silent.registers s.below m) (front n s.own) (g.met.P.Silent.sized s.below m ok) (g.met.P.Silent.laws (g.P.Silent.plan s.below) m ok)
-          v c.in-ok-moved.moved (put.result || fill.result) b (front n fill.new.own) one.turned
+          v c.in_ok-moved.moved (put.result || fill.result) b (front n fill.new.own) one.turned
           (rank_changed m t v r.result xs ys zs put.ensures.after fill.ensures.after put.result fill.result one.turned.0 put.ensures.changed fill.ensures.changed) (ranker m) rule;
     }
