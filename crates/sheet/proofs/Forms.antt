@@ -2,7 +2,7 @@
 use Rattle.std.proofs.Common.{◌≡◌, ℕ, List}
 use Rattle.text.specs.Lines.{contents_bytes, fault_bytes, link_bytes, turn_bytes}
 use Rattle.text.specs.Page.{Lacks}
-use Rattle.text.proofs.Lines.{contents_plain, fault_plain, link_plain, same_contents, same_fault, same_link, same_turn, turn_plain}
+use Rattle.text.specs.LineKinds.{contents_plain, fault_plain, link_plain, same_contents, same_fault, same_link, same_turn, turn_plain}
 
 -- a kind of line whose written form has no line feed and is that of one value
 pub record Kind {X : Type 0} (bytes : X → List ℕ) : Type 0 where

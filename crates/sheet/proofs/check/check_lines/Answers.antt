@@ -9,7 +9,7 @@ pub returns-in_err-check_links : goal.returns-in_err-check_links
 returns-in_err-check_links c =
     let p = err_from_is_err_and c.from_residual.result c.from_residual.ensures.1 in
     let l = lists c.args.links.now c.args.faults.now c.args.turns.now in
-    rw (p.1, p.2) (lines_at_links c.args.ns l c.requires.links c.requires.faults c.requires.turns c.in-err-check-links.field-0.0 c.in-err-check-links.ensures)
+    rw (p.1, p.2) (lines_at_links c.args.ns l c.requires.links c.requires.faults c.requires.turns c.in_err-check_links.field-0.0 c.in_err-check_links.ensures)
 
 pub returns-in_err-check_body : goal.returns-in_err-check_body
 returns-in_err-check_body c =
@@ -17,11 +17,11 @@ returns-in_err-check_body c =
     let l = lists c.args.links.now c.args.faults.now c.args.turns.now in
     let a = c.get.ensures in
     let b = c.get-2.ensures in
-    rw (p.1, p.2) (lines_at_faults c.args.ns l c.requires.links c.requires.faults c.requires.turns c.in-ok-check-links.ensures c.in-err-check-body.field-0.0 (c.in-err-check-body.ensures.checked (places c.args.ns) (omega arith)))
+    rw (p.1, p.2) (lines_at_faults c.args.ns l c.requires.links c.requires.faults c.requires.turns c.in_ok-check_links.ensures c.in_err-check_body.field-0.0 (c.in_err-check_body.ensures.checked (places c.args.ns) (omega arith)))
 
 pub returns : goal.returns
 returns c =
     let l = lists c.args.links.now c.args.faults.now c.args.turns.now in
     let a = c.get.ensures in
     let b = c.get-2.ensures in
-    lines_checked c.args.ns l c.requires.links c.requires.faults c.requires.turns c.in-ok-check-links.ensures (c.in-ok-check-body.ensures.checked (places c.args.ns) (omega arith)) c.check_turns.result c.check_turns.ensures
+    lines_checked c.args.ns l c.requires.links c.requires.faults c.requires.turns c.in_ok-check_links.ensures (c.in_ok-check_body.ensures.checked (places c.args.ns) (omega arith)) c.check_turns.result c.check_turns.ensures

@@ -15,14 +15,14 @@ pub returns-in_err-check_body : goal.returns-in_err-check_body
 returns-in_err-check_body c =
     let p = err_from_is_err_and c.from_residual.result c.from_residual.ensures.1 in
     let ns = c.args.ns in
-    rw (p.1, p.2) (links_stopped ns c.args.links.now c.requires.count c.in-err-check-body.field-0.0 (c.in-err-check-body.ensures.checked ns.nodes.value c.requires.draft))
+    rw (p.1, p.2) (links_stopped ns c.args.links.now c.requires.count c.in_err-check_body.field-0.0 (c.in_err-check_body.ensures.checked ns.nodes.value c.requires.draft))
 
 pub returns : goal.returns
 returns c =
     let ns = c.args.ns in
     let ls = c.args.links.now in
-    let good = c.in-ok-check-body.ensures.checked ns.nodes.value c.requires.draft in
-    let held : draft c.check_body.new.into ≡ site_of ns.nodes.value ls = c.in-ok-check-body.ensures.held ns.nodes.value c.requires.draft in
+    let good = c.in_ok-check_body.ensures.checked ns.nodes.value c.requires.draft in
+    let held : draft c.check_body.new.into ≡ site_of ns.nodes.value ls = c.in_ok-check_body.ensures.held ns.nodes.value c.requires.draft in
     let P : Result (Unit {0}) SheetFault → Type 0 = LinksChecked ns ls in
     elim c.match-finish.branch [
       | in-Ok w ↦ subst P (sym w.result-is) (good, (subst Proper held w.in-Ok.ensures.1).reached)

@@ -7,7 +7,7 @@ use Rattle.sheet.proofs.check.check_sheet.Goals as goal
 pub returns-in_err-check_contents : goal.returns-in_err-check_contents
 returns-in_err-check_contents c =
     let p = err_from_is_err_and c.from_residual.result c.from_residual.ensures.1 in
-    rw (p.1, p.2) (sheet_at_contents c.args.ns (lists c.args.links.now c.args.faults.now c.args.turns.now) c.in-err-check-contents.field-0.0 c.in-err-check-contents.ensures)
+    rw (p.1, p.2) (sheet_at_contents c.args.ns (lists c.args.links.now c.args.faults.now c.args.turns.now) c.in_err-check_contents.field-0.0 c.in_err-check_contents.ensures)
 
 pub returns : goal.returns
-returns c = sheet_at_lines c.args.ns (lists c.args.links.now c.args.faults.now c.args.turns.now) c.check_lines.result c.in-ok-check-contents.ensures c.requires c.check_lines.ensures
+returns c = sheet_at_lines c.args.ns (lists c.args.links.now c.args.faults.now c.args.turns.now) c.check_lines.result c.in_ok-check_contents.ensures c.requires c.check_lines.ensures

@@ -10,15 +10,15 @@ returns-in_err-site c =
     let p = err_from_is_err_and c.from_residual-in_err-site.result c.from_residual-in_err-site.ensures.1 in
     let bytes = c.args.bytes.now in
     rw (p.1, p.2) (record {
-      judged = lines_stop bytes (λ (over : 65536 < length bytes). omega arith) (spot c.new-rd.result) c.new-rd.ensures c.in-ok-ns.ns (spot c.read_contents.new.rd) c.in-err-site.field-0.0 c.in-ok-ns.ensures.read c.in-err-site.ensures.read;
+      judged = lines_stop bytes (λ (over : 65536 < length bytes). omega arith) (spot c.new-rd.result) c.new-rd.ensures c.in_ok-ns.ns (spot c.read_contents.new.rd) c.in_err-site.field-0.0 c.in_ok-ns.ensures.read c.in_err-site.ensures.read;
       site = tt;
     })
 
 pub returns : goal.returns
 returns c =
     let bytes = c.args.bytes.now in
-    let ns = c.in-ok-ns.ns in
+    let ns = c.in_ok-ns.ns in
     record {
-      judged = sheet_passed bytes (λ (over : 65536 < length bytes). omega arith) (spot c.new-rd.result) c.new-rd.ensures ns (spot c.read_contents.new.rd) (spot c.read_lines.new.rd) (front ns (lists c.read_lines.new.links c.read_lines.new.faults c.read_lines.new.turns)) c.in-ok-ns.ensures.read c.in-ok-site.ensures.read;
-      site = c.in-ok-site.ensures.site;
+      judged = sheet_passed bytes (λ (over : 65536 < length bytes). omega arith) (spot c.new-rd.result) c.new-rd.ensures ns (spot c.read_contents.new.rd) (spot c.read_lines.new.rd) (front ns (lists c.read_lines.new.links c.read_lines.new.faults c.read_lines.new.turns)) c.in_ok-ns.ensures.read c.in_ok-site.ensures.read;
+      site = c.in_ok-site.ensures.site;
     }

@@ -17,16 +17,16 @@ pub returns-in_err-read_body : goal.returns-in_err-read_body
 returns-in_err-read_body c =
     let p = err_from_is_err_and c.from_residual-in_err-read_body.result c.from_residual-in_err-read_body.ensures.1 in
     let ns = c.args.ns in
-    let w = c.requires.within.faults-most in
+    let w = c.requires.within.faults_most in
     let room = c.requires.room.1 in
     let kept = c.read_body.auto.list in
     let a = c.get.ensures in
     let b = c.get-2.ensures in
     let n = c.get-count.ensures in
-    let e = c.in-err-read-body.field-0.0 in
-    let h = c.in-err-read-body.ensures.read (omega arith) (places ns) (omega arith) in
+    let e = c.in_err-read_body.field-0.0 in
+    let h = c.in_err-read_body.ensures.read (omega arith) (places ns) (omega arith) in
     rw (p.1, p.2) (record {
-      read = at_faults ns (spot c.args.rd.now) (take ns.links.value c.read_links.new.links) (spot c.read_links.new.rd) c.in-ok-site.ensures.read e
+      read = at_faults ns (spot c.args.rd.now) (take ns.links.value c.read_links.new.links) (spot c.read_links.new.rd) c.in_ok-site.ensures.read e
           (body_stopped fault_bytes fault_rules (places ns) c.get-count.result ns.faults.value (spot c.read_links.new.rd) (spot c.read_body.new.rd) _ c.read_body.new.list (λ _. c.read_body.new.into.count ≡ places ns) e n (omega arith) h);
       site = tt;
     })
@@ -35,16 +35,16 @@ pub returns-in_err-read_turns : goal.returns-in_err-read_turns
 returns-in_err-read_turns c =
     let p = err_from_is_err_and c.from_residual-in_err-read_turns.result c.from_residual-in_err-read_turns.ensures.1 in
     let ns = c.args.ns in
-    let w = c.requires.within.faults-most in
+    let w = c.requires.within.faults_most in
     let room = c.requires.room.1 in
     let a = c.get.ensures in
     let b = c.get-2.ensures in
     let n = c.get-count.ensures in
     let q = spot c.read_links.new.rd in
     let r = spot c.read_body.new.rd in
-    let faults = body_passed fault_bytes fault_rules (places ns) c.get-count.result ns.faults.value q r _ c.read_body.new.list (λ _. c.read_body.new.into.count ≡ places ns) n (c.in-ok-read-body.ensures.read (omega arith) (places ns) (omega arith)) in
+    let faults = body_passed fault_bytes fault_rules (places ns) c.get-count.result ns.faults.value q r _ c.read_body.new.list (λ _. c.read_body.new.into.count ≡ places ns) n (c.in_ok-read_body.ensures.read (omega arith) (places ns) (omega arith)) in
     rw (p.1, p.2) (record {
-      read = at_turns ns (spot c.args.rd.now) (take ns.links.value c.read_links.new.links) q c.in-ok-site.ensures.read (take ns.faults.value c.read_body.new.list) r faults c.in-err-read-turns.field-0.0 c.in-err-read-turns.ensures;
+      read = at_turns ns (spot c.args.rd.now) (take ns.links.value c.read_links.new.links) q c.in_ok-site.ensures.read (take ns.faults.value c.read_body.new.list) r faults c.in_err-read_turns.field-0.0 c.in_err-read_turns.ensures;
       site = tt;
     })
 
@@ -52,23 +52,23 @@ pub returns-in_err-end : goal.returns-in_err-end
 returns-in_err-end c =
     let p = err_from_is_err_and c.from_residual-in_err-end.result c.from_residual-in_err-end.ensures.1 in
     let ns = c.args.ns in
-    let w = c.requires.within.faults-most in
+    let w = c.requires.within.faults_most in
     let room = c.requires.room.1 in
     let a = c.get.ensures in
     let b = c.get-2.ensures in
     let n = c.get-count.ensures in
     let q = spot c.read_links.new.rd in
     let r = spot c.read_body.new.rd in
-    let faults = body_passed fault_bytes fault_rules (places ns) c.get-count.result ns.faults.value q r _ c.read_body.new.list (λ _. c.read_body.new.into.count ≡ places ns) n (c.in-ok-read-body.ensures.read (omega arith) (places ns) (omega arith)) in
+    let faults = body_passed fault_bytes fault_rules (places ns) c.get-count.result ns.faults.value q r _ c.read_body.new.list (λ _. c.read_body.new.into.count ≡ places ns) n (c.in_ok-read_body.ensures.read (omega arith) (places ns) (omega arith)) in
     rw (p.1, p.2) (record {
-      read = at_end ns (spot c.args.rd.now) (take ns.links.value c.read_links.new.links) q c.in-ok-site.ensures.read (take ns.faults.value c.read_body.new.list) r faults (take ns.turns.value c.read_turns.new.turns) (spot c.read_turns.new.rd) c.in-ok-read-turns.ensures c.in-err-end.field-0.0 c.in-err-end.ensures;
+      read = at_end ns (spot c.args.rd.now) (take ns.links.value c.read_links.new.links) q c.in_ok-site.ensures.read (take ns.faults.value c.read_body.new.list) r faults (take ns.turns.value c.read_turns.new.turns) (spot c.read_turns.new.rd) c.in_ok-read_turns.ensures c.in_err-end.field-0.0 c.in_err-end.ensures;
       site = tt;
     })
 
 pub returns : goal.returns
 returns c =
     let ns = c.args.ns in
-    let w = c.requires.within.faults-most in
+    let w = c.requires.within.faults_most in
     let room = c.requires.room.1 in
     let a = c.get.ensures in
     let b = c.get-2.ensures in
@@ -77,8 +77,8 @@ returns c =
     let q = spot c.read_links.new.rd in
     let r = spot c.read_body.new.rd in
     let s = spot c.read_turns.new.rd in
-    let faults = body_passed fault_bytes fault_rules (places ns) c.get-count.result ns.faults.value q r _ c.read_body.new.list (λ _. c.read_body.new.into.count ≡ places ns) n (c.in-ok-read-body.ensures.read (omega arith) (places ns) (omega arith)) in
+    let faults = body_passed fault_bytes fault_rules (places ns) c.get-count.result ns.faults.value q r _ c.read_body.new.list (λ _. c.read_body.new.into.count ≡ places ns) n (c.in_ok-read_body.ensures.read (omega arith) (places ns) (omega arith)) in
     record {
-      read = all_lines ns p (take ns.links.value c.read_links.new.links) q c.in-ok-site.ensures.read (take ns.faults.value c.read_body.new.list) r faults (take ns.turns.value c.read_turns.new.turns) s c.in-ok-read-turns.ensures c.in-ok-end.ensures;
-      site = c.in-ok-site.ensures.site;
+      read = all_lines ns p (take ns.links.value c.read_links.new.links) q c.in_ok-site.ensures.read (take ns.faults.value c.read_body.new.list) r faults (take ns.turns.value c.read_turns.new.turns) s c.in_ok-read_turns.ensures c.in_ok-end.ensures;
+      site = c.in_ok-site.ensures.site;
     }

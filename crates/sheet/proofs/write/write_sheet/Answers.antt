@@ -61,7 +61,7 @@ returns-in_err-check_sheet c =
     let p = err_from_is_err_and c.from_residual.result c.from_residual.ensures.1 in
     let at = (goal.at.returns-in_err-check_sheet c).After-front-ts in
     rw (p.1, p.2) (record {
-      wrote = wrote_declined c.args.ns (lists c.args.links.now c.args.faults.now c.args.turns.now) _ c.heads_of-heads.result (same at) c.heads_of-heads.ensures (room at) c.sheet_size-size.result c.sheet_size-size.ensures c.args.page.now c.in-err-check-sheet.field-0.0 c.if-size-gt65536.false c.in-err-check-sheet.ensures;
+      wrote = wrote_declined c.args.ns (lists c.args.links.now c.args.faults.now c.args.turns.now) _ c.heads_of-heads.result (same at) c.heads_of-heads.ensures (room at) c.sheet_size-size.result c.sheet_size-size.ensures c.args.page.now c.in_err-check_sheet.field-0.0 c.if-size-gt65536.false c.in_err-check_sheet.ensures;
       returns = tt;
     })
 
@@ -69,7 +69,7 @@ pub returns-then-size-page : goal.returns-then-size-page
 returns-then-size-page c =
     let at = (goal.at.returns-then-size-page c).After-front-ts in
     record {
-      wrote = wrote_narrow c.args.ns (lists c.args.links.now c.args.faults.now c.args.turns.now) _ c.heads_of-heads.result (same at) c.heads_of-heads.ensures (room at) c.sheet_size-size.result c.sheet_size-size.ensures c.args.page.now c.if-size-gt65536.false c.if-size-page.true c.in-ok-check-sheet.ensures;
+      wrote = wrote_narrow c.args.ns (lists c.args.links.now c.args.faults.now c.args.turns.now) _ c.heads_of-heads.result (same at) c.heads_of-heads.ensures (room at) c.sheet_size-size.result c.sheet_size-size.ensures c.args.page.now c.if-size-gt65536.false c.if-size-page.true c.in_ok-check_sheet.ensures;
       returns = tt;
     }
 
@@ -77,5 +77,5 @@ pub returns : goal.returns
 returns c =
     let at = (goal.at.returns c).After-front-ts in
     let w = wrote_all c.args.ns (lists c.args.links.now c.args.faults.now c.args.turns.now) _ c.heads_of-heads.result (same at) c.heads_of-heads.ensures (room at) c.sheet_size-size.result c.sheet_size-size.ensures c.args.page.now
-    c.put_sheet.result c.put_sheet.new.page c.if-size-gt65536.false c.if-size-page.false c.in-ok-check-sheet.ensures c.put_sheet.ensures.place c.put_sheet.ensures.page in
+    c.put_sheet.result c.put_sheet.new.page c.if-size-gt65536.false c.if-size-page.false c.in_ok-check_sheet.ensures c.put_sheet.ensures.place c.put_sheet.ensures.page in
     record { wrote = w.0; returns = w.1 }
