@@ -1,2 +1,2 @@
 pub mod AskingsLaws
-mod OrdersLaws
+pub mod OrdersLaws

@@ -4,6 +4,7 @@ ghost use Rattle.refusal.specs.Checks.{Free};
 ghost use Rattle.daemon.specs.ScriptChecks.{script_checks};
 
 mod calls;
+mod owned;
 
 /// Names the nodes of a list in its order, again and again. Its patience is the list's length.
 #[derive(Drop)]

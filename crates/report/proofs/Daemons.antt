@@ -12,7 +12,7 @@ use Rattle.silent.specs.declared.Silent.{Ghosts}
 use Rattle.daemon.specs.Dues.{Run}
 use Rattle.daemon.specs.RoundRobins.{RobinAsked, RobinMade}
 use Rattle.daemon.specs.ScriptChecks.{script_checks}
-use Rattle.daemon.specs.Scripts.{ScriptAsked, ScriptMade}
+use Rattle.daemon.specs.Scripts.{ScriptAsked, ScriptOwned}
 use Rattle.daemon.specs.Scripts as scripts
 use Rattle.daemon.specs.declared.robin.RoundRobin.{RoundRobin}
 use Rattle.daemon.specs.declared.script.Script.{Script}
@@ -54,10 +54,10 @@ named_script : (n : ℕ) (names : List ℕ) (k : ℕ) → 0 < length names → n
 named_script n [] k l = absurd (omega arith)
 named_script n (x ∷ xs) k l = refl
 
-pub script_made : (n : ℕ) (names : List ℕ) (r : Refusal) → Free (script_checks n names) → ScriptMade n names (Err r) → ⊥
+pub script_made : (n : ℕ) (names : List ℕ) (r : Refusal) → Free (script_checks n names) → ScriptOwned n names (Err r) → ⊥
 script_made n names r free declined = free_first (script_checks n names) r free declined
 
-pub script_able : {X : Type 0} (g : Ghosts X) (a : Net X) (n : ℕ) (names : List ℕ) (d : Script) → ScriptMade n names (Ok d) → n ≡ (at a).nodes → Fresh (at a).nodes (state g a) → told_bound (meant g a) ≤ 768 → Able g script.ghosts a d
+pub script_able : {X : Type 0} (g : Ghosts X) (a : Net X) (n : ℕ) (names : List ℕ) (d : Script) → ScriptOwned n names (Ok d) → n ≡ (at a).nodes → Fresh (at a).nodes (state g a) → told_bound (meant g a) ≤ 768 → Able g script.ghosts a d
 script_able g a n names d made same fresh low =
     let few : length names ≤ 1024 = most made.0 in
     let long = ap length made.2 in
@@ -67,7 +67,7 @@ script_able g a n names d made same fresh low =
     most : Free (script_checks n names) → length names ≤ 1024
     most free = ⊎_elim (λ over. absurd (free.0 (λ limits. let l = limits.1 in omega arith))) (λ l. l) (cases_lt 1024 (length names))
 
-pub script_ordered : (n : ℕ) (names vs : List ℕ) (d y : Script) → 0 < length names → ScriptMade n names (Ok d) → Run ScriptAsked d vs y → Ordered n names vs
+pub script_ordered : (n : ℕ) (names vs : List ℕ) (d y : Script) → 0 < length names → ScriptOwned n names (Ok d) → Run ScriptAsked d vs y → Ordered n names vs
 script_ordered n names vs d y some made asked = λ k l.
     script_order d y vs asked k l
     ∙ ap (λ i. get_or (scripts.names_of d) (i % length (scripts.names_of d)) 0) (from_first d.at k made.3)

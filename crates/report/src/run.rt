@@ -70,7 +70,7 @@ pub(crate) fn settle<P: Silent>(net: &mut Net<P>, nodes: usize, turns: &[TurnLin
             Err(_) => unreachable(),
         }
     } else {
-        match Script::new(nodes, nodes_of(turns, names)) {
+        match Script::owned(nodes, nodes_of(turns, names)) {
             Ok(script) => {
                 let mut script = script;
                 draw(net, &mut script)

@@ -40,7 +40,7 @@ fn lacks(nodes: usize, names: &[u16]) -> bool
 }
 
 /// The first check that the names fail.
-fn refusal(nodes: usize, names: &[u16]) -> Option<Refusal>
+pub(super) fn refusal(nodes: usize, names: &[u16]) -> Option<Refusal>
     ensures { Checked (script_checks nodes names.now) result }
 {
     if nodes < 1 || nodes > NODES || names.len() < 1 || names.len() > NAMES {

@@ -8,9 +8,9 @@ use Rattle.report.proofs.bound.sheet_bound.Goals as goal
 
 pub returns : goal.returns
 returns c =
-    let ns = c.in-ok-read-sheet.field-0 in
+    let ns = c.in_ok-read_sheet.field-0 in
     let l = lists c.args.links.now c.args.faults.now c.args.turns.now in
-    let m = lists c.read-sheet.new.links c.read-sheet.new.faults c.read-sheet.new.turns in
+    let m = lists c.read_sheet.new.links c.read_sheet.new.faults c.read_sheet.new.turns in
     let read : ReadSheet c.args.bytes.now l c.args.site.now (Ok ns) m (Some c.in-Some.read) =
-    subst (λ (z : Option Site). ReadSheet c.args.bytes.now l c.args.site.now (Ok ns) m z) c.in-Some.is c.in-ok-read-sheet.ensures in
-    (ns, read, c.stack-bound.ensures.bound ∙ ap (λ (s : Model). (stack s).bound) (sited c.args.bytes.now l c.args.site.now ns m (Some c.in-Some.read) read), c.stack-bound.ensures.low)
+    subst (λ (z : Option Site). ReadSheet c.args.bytes.now l c.args.site.now (Ok ns) m z) c.in-Some.is c.in_ok-read_sheet.ensures in
+    (ns, read, c.stack_bound.ensures.bound ∙ ap (λ (s : Model). (stack s).bound) (sited c.args.bytes.now l c.args.site.now ns m (Some c.in-Some.read) read), c.stack_bound.ensures.low)

@@ -13,23 +13,23 @@ nodes-low s = (proper s).drawn.limit
 height-low : (s : Site) → height (model s) < 256
 height-low s = let a = height_below (model s) (proper s) in let b = nodes-low s in omega arith
 
-pub overflow-cast-tour : goal.overflow-cast-tour
-overflow-cast-tour c = let h = height-low c.args.site.now in let e = c.height.ensures.value in omega arith
+pub overflow_cast-tour : goal.overflow_cast-tour
+overflow_cast-tour c = let h = height-low c.args.site.now in let e = c.height.ensures.value in omega arith
 
-pub overflow-add-tour : goal.overflow-add-tour
-overflow-add-tour c = let h = height-low c.args.site.now in let e = c.height.ensures.value in omega arith
+pub overflow_add-tour : goal.overflow_add-tour
+overflow_add-tour c = let h = height-low c.args.site.now in let e = c.height.ensures.value in omega arith
 
-pub overflow-mul-tour : goal.overflow-mul-tour
-overflow-mul-tour c = let h = height-low c.args.site.now in let e = c.height.ensures.value in omega arith
+pub overflow_mul-tour : goal.overflow_mul-tour
+overflow_mul-tour c = let h = height-low c.args.site.now in let e = c.height.ensures.value in omega arith
 
-pub overflow-cast-pairs : goal.overflow-cast-pairs
-overflow-cast-pairs c = let h = nodes-low c.args.site.now in let e = c.nodes.ensures in omega arith
+pub overflow_cast-pairs : goal.overflow_cast-pairs
+overflow_cast-pairs c = let h = nodes-low c.args.site.now in let e = c.nodes.ensures in omega arith
 
-pub overflow-mul-pairs : goal.overflow-mul-pairs
-overflow-mul-pairs c = let h = nodes-low c.args.site.now in let e = c.nodes.ensures in omega arith
+pub overflow_mul-pairs : goal.overflow_mul-pairs
+overflow_mul-pairs c = let h = nodes-low c.args.site.now in let e = c.nodes.ensures in omega arith
 
-pub overflow-add-pairs : goal.overflow-add-pairs
-overflow-add-pairs c = let h = nodes-low c.args.site.now in let e = c.nodes.ensures in omega arith
+pub overflow_add-pairs : goal.overflow_add-pairs
+overflow_add-pairs c = let h = nodes-low c.args.site.now in let e = c.nodes.ensures in omega arith
 
 pub returns-then-tour-pairs : goal.returns-then-tour-pairs
 returns-then-tour-pairs c =

@@ -4,8 +4,8 @@ use Rattle.report.specs.Runs.{names_of}
 use Rattle.report.proofs.Entering.{all_item, names_more}
 use Rattle.report.proofs.run.nodes_of.Goals as goal
 
-pub overflow-cast-get : goal.overflow-cast-get
-overflow-cast-get c =
+pub overflow_cast-get : goal.overflow_cast-get
+overflow_cast-get c =
     let low = all_item _ c.args.turns.now c.loop-i.i c.index-turns-i.result c.requires.few c.loop-i-test.true c.index-turns-i.is in
     let e = c.get.ensures in
     omega arith

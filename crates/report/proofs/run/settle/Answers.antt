@@ -3,7 +3,7 @@ use Rattle.std.proofs.lemmas.List.{length-map}
 use Rattle.std.proofs.lemmas.Bool.{eqb-false, eqb-true}
 use Rattle.refusal.specs.Checks.{Free}
 use Rattle.daemon.specs.ScriptChecks.{script_checks}
-use Rattle.daemon.specs.Scripts.{ScriptMade}
+use Rattle.daemon.specs.Scripts.{ScriptOwned}
 use Rattle.daemon.specs.ScriptSound.{free_below}
 use Rattle.text.specs.declared.records.TurnLine.{TurnLine}
 use Rattle.site.proofs.Whole.{proper}
@@ -18,33 +18,33 @@ some-names ts h = let e = length-map ts (λ (t : TurnLine). t.node.value) in ome
 pub draw-requires : goal.draw-requires
 draw-requires g c = robin_able g.P.Silent c.args.net.now c.args.nodes c.in-Ok.robin c.in-Ok.ensures c.requires.nodes c.requires.fresh c.requires.low
 
-pub nodes-of-requires : goal.nodes-of-requires
-nodes-of-requires g c =
-    let some = some-names c.args.turns.now (eqb-false _ _ (sym c.if-is-empty.ensures)) in
+pub nodes_of-requires : goal.nodes_of-requires
+nodes_of-requires g c =
+    let some = some-names c.args.turns.now (eqb-false _ _ (sym c.if-is_empty.ensures)) in
     let free = script_free c.args.nodes (names_of c.args.turns.now) some c.requires.script in
     let few = (proper c.args.net.now.site.now).drawn.limit in
     let same = c.requires.nodes in
     record { room = c.requires.room; few = few_names c.args.nodes c.args.turns.now (free_below c.args.nodes (names_of c.args.turns.now) free) (omega arith) }
 
-pub draw-requires-in-Ok-new : goal.draw-requires-in-Ok-new
-draw-requires-in-Ok-new g c =
-    script_able g.P.Silent c.args.net.now c.args.nodes (vec_items c.nodes-of.result) c.in-Ok-new.script c.in-Ok-new.ensures c.requires.nodes c.requires.fresh c.requires.low
+pub draw-requires-in-Ok-owned : goal.draw-requires-in-Ok-owned
+draw-requires-in-Ok-owned g c =
+    script_able g.P.Silent c.args.net.now c.args.nodes (vec_items c.nodes_of.result) c.in-Ok-owned.script c.in-Ok-owned.ensures c.requires.nodes c.requires.fresh c.requires.low
 
-pub unreachable-requires-in-Err-new : goal.unreachable-requires-in-Err-new
-unreachable-requires-in-Err-new g c =
-    let some = some-names c.args.turns.now (eqb-false _ _ (sym c.if-is-empty.ensures)) in
+pub unreachable-requires-in-Err-owned : goal.unreachable-requires-in-Err-owned
+unreachable-requires-in-Err-owned g c =
+    let some = some-names c.args.turns.now (eqb-false _ _ (sym c.if-is_empty.ensures)) in
     let free = script_free c.args.nodes (names_of c.args.turns.now) some c.requires.script in
-    script_made c.args.nodes (vec_items c.nodes-of.result) c.in-Err-new.field-0 (subst (λ (ns : List ℕ). Free (script_checks c.args.nodes ns)) (sym c.nodes-of.ensures) free) c.in-Err-new.ensures
+    script_made c.args.nodes (vec_items c.nodes_of.result) c.in-Err-owned.field-0 (subst (λ (ns : List ℕ). Free (script_checks c.args.nodes ns)) (sym c.nodes_of.ensures) free) c.in-Err-owned.ensures
 
 pub returns-in-Ok : goal.returns-in-Ok
 returns-in-Ok g c =
     let course = c.draw.ensures in
-    let none = none_named c.args.turns.now (let e = eqb-true _ _ (sym c.if-is-empty.ensures) in omega arith) in
+    let none = none_named c.args.turns.now (let e = eqb-true _ _ (sym c.if-is_empty.ensures) in omega arith) in
     (course.0, subst (λ (n : ℕ). Ordered n (names_of c.args.turns.now) course.0) c.requires.nodes (robin_ordered c.args.nodes (names_of c.args.turns.now) course.0 c.in-Ok.robin c.draw.new.daemon c.in-Ok.ensures none course.1), course.2)
 
-pub returns-in-Ok-new : goal.returns-in-Ok-new
-returns-in-Ok-new g c =
-    let course = c.draw-in-Ok-new.ensures in
-    let some = some-names c.args.turns.now (eqb-false _ _ (sym c.if-is-empty.ensures)) in
-    let made = subst (λ (ns : List ℕ). ScriptMade c.args.nodes ns (Ok c.in-Ok-new.script)) c.nodes-of.ensures c.in-Ok-new.ensures in
-    (course.0, subst (λ (n : ℕ). Ordered n (names_of c.args.turns.now) course.0) c.requires.nodes (script_ordered c.args.nodes (names_of c.args.turns.now) course.0 c.in-Ok-new.script c.draw-in-Ok-new.new.daemon some made course.1), course.2)
+pub returns-in-Ok-owned : goal.returns-in-Ok-owned
+returns-in-Ok-owned g c =
+    let course = c.draw-in-Ok-owned.ensures in
+    let some = some-names c.args.turns.now (eqb-false _ _ (sym c.if-is_empty.ensures)) in
+    let made = subst (λ (ns : List ℕ). ScriptOwned c.args.nodes ns (Ok c.in-Ok-owned.script)) c.nodes_of.ensures c.in-Ok-owned.ensures in
+    (course.0, subst (λ (n : ℕ). Ordered n (names_of c.args.turns.now) course.0) c.requires.nodes (script_ordered c.args.nodes (names_of c.args.turns.now) course.0 c.in-Ok-owned.script c.draw-in-Ok-owned.new.daemon some made course.1), course.2)

@@ -10,6 +10,6 @@ more all xs a b p q = p ∙ ap (λ (xs : List ℕ). xs ++ replicate b 0) q ∙ r
 
 pub returns : goal.returns
 returns c = λ m ok.
-    let count = more _ _ _ _ (c.in-ok-count.ensures.registers m ok) (c.in-ok-tree.ensures m ok) in
-    let rank = more _ _ _ _ (c.in-ok-rank.ensures.registers m ok) count in
-    c.new-5.ensures.registers m ∙ joins _ _ _ _ rank (c.in-ok-matching.ensures m ok)
+    let count = more _ _ _ _ (c.in_ok-count.ensures.registers m ok) (c.in_ok-tree.ensures m ok) in
+    let rank = more _ _ _ _ (c.in_ok-rank.ensures.registers m ok) count in
+    c.new-5.ensures.registers m ∙ joins _ _ _ _ rank (c.in_ok-matching.ensures m ok)
