@@ -5,6 +5,7 @@ use sheet::read::read_sheet;
 use site::room::SiteRoom;
 use site::site::Site;
 use std::alloc::Global;
+use std::process::Abort;
 use std::test::*;
 use text::number::Number;
 use text::records::{FaultLine, LinkLine, TurnLine};
@@ -123,9 +124,9 @@ impl Desk {
     }
 
     /// What reading a sheet answers, once it is seen that every entry past the read ones is 0.
-    pub fn answer(&mut self, bytes: &[u8]) -> Result<Answer, Fail> {
+    pub fn answer(&mut self, rt: &impl Abort, bytes: &[u8]) -> Result<Answer, Fail> {
         let (answer, ns) = self.read(bytes)?;
-        assert!(self.is_clear(ns.links.get(), ns.faults.get(), ns.turns.get()));
+        assert!(rt; self.is_clear(ns.links.get(), ns.faults.get(), ns.turns.get()));
         Ok(answer)
     }
 

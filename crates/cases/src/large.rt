@@ -55,7 +55,7 @@ fn padded(rt: &impl Abort, heap: Global, sheet: &str, size: usize) -> Result<Ans
     let mut bytes = sheet.as_bytes().to_vec(heap)?;
     assert!(rt; bytes.len() <= size);
     bytes.resize(size, b'\n')?;
-    Desk::new(heap)?.answer(&bytes)
+    Desk::new(heap)?.answer(rt, &bytes)
 }
 
 // Every size at the limit and past it.
@@ -81,7 +81,7 @@ fn short(rt: &impl Abort, heap: Global, lists: [usize; 3], sheet: &[u8]) -> Resu
 // Longer lists are cleared to their ends.
 fn longer(rt: &impl Abort, heap: Global) -> Result<(), Fail> {
     let mut desk = Desk::sized(heap, 1025, 4097, 1030)?;
-    assert_eq!(rt; desk.answer(LEAST.as_bytes())?, ACCEPTED);
+    assert_eq!(rt; desk.answer(rt, LEAST.as_bytes())?, ACCEPTED);
     Ok(())
 }
 
@@ -122,7 +122,7 @@ fn spans(
 // Reads a row, and finds the row of 256 nodes in the site's place.
 fn reads_row(rt: &impl Abort, desk: &mut Desk, nodes: u32, expected: Answer) -> Result<(), Fail> {
     let sheet = row(desk.heap, nodes)?;
-    assert_eq!(rt; desk.answer(sheet.as_bytes())?, expected);
+    assert_eq!(rt; desk.answer(rt, sheet.as_bytes())?, expected);
     spans(
         rt,
         desk,
@@ -134,7 +134,7 @@ fn reads_row(rt: &impl Abort, desk: &mut Desk, nodes: u32, expected: Answer) -> 
 // Reads the largest sheet.
 fn reads_largest(rt: &impl Abort, desk: &mut Desk) -> Result<(), Fail> {
     let sheet = largest(desk.heap)?;
-    assert_eq!(rt; desk.answer(sheet.as_bytes())?, ACCEPTED);
+    assert_eq!(rt; desk.answer(rt, sheet.as_bytes())?, ACCEPTED);
     spans(
         rt,
         desk,

@@ -9,19 +9,29 @@ use std::alloc::Global;
 use std::process::Abort;
 use std::test::*;
 
-// One sheet, of a start and an end.
+// One sheet, of a start and an end; the case is the number of each.
 fn judge(
     rt: &impl Abort,
     heap: Global,
     head: &[u8],
     tail: &[u8],
     expected: Answer,
+    case: (usize, usize),
 ) -> Result<(), Fail> {
     let mut bytes = head.to_vec(heap)?;
     bytes.extend_from_slice(tail)?;
     let mut desk = Desk::new(heap)?;
-    assert_eq!(rt; desk.answer(&bytes)?, expected);
-    assert_eq!(rt; desk.site.is_some(), expected.number == 0);
+    let (start, end) = case;
+    assert_eq!(rt;
+        desk.answer(rt, &bytes)?,
+        expected,
+        "start {start}, end {end}"
+    );
+    assert_eq!(rt;
+        desk.site.is_some(),
+        expected.number == 0,
+        "start {start}, end {end}"
+    );
     Ok(())
 }
 
@@ -34,9 +44,7 @@ fn judge_all(rt: &impl Abort, heap: Global, tables: &[Table]) -> Result<(), Fail
                 line: c.line,
             };
             for (i, tail) in c.tails.iter().enumerate() {
-                judge(rt, heap, table.head, tail, expected).note(format_args!(
-                    "start {t}, end {i} of {expected:?}"
-                ))?;
+                judge(rt, heap, table.head, tail, expected, (t, i))?;
             }
         }
     }

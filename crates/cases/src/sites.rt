@@ -150,7 +150,10 @@ fn turned(rt: &impl Abort, heap: Global) -> Result<(), Fail> {
 #[test]
 fn five_nodes(rt: HostRuntime) -> Result<(), Fail> {
     let mut desk = Desk::new(rt.alloc())?;
-    let answer = desk.answer(b"NODES;5\nLINKS;5\nFAULTS;0\nTURNS;0\n0;1\n0;2\n1;3\n2;3\n3;4\n")?;
+    let answer = desk.answer(
+        &rt,
+        b"NODES;5\nLINKS;5\nFAULTS;0\nTURNS;0\n0;1\n0;2\n1;3\n2;3\n3;4\n",
+    )?;
     assert_eq!(rt; answer, ACCEPTED);
     told(&rt, &desk)?;
     turned(&rt, rt.alloc())

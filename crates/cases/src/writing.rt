@@ -87,6 +87,7 @@ fn write(desk: &Desk, ns: Contents, page: &mut [u8]) -> Result<(Answer, usize), 
 // On a page of so many dots more than the text has bytes, writing leaves the text and then dots.
 fn leaves(
     rt: &impl Abort,
+    case: usize,
     desk: &Desk,
     ns: Contents,
     text: &[u8],
@@ -96,15 +97,16 @@ fn leaves(
     expected.resize(text.len().saturating_add(more), b'.')?;
     let mut page = vec![in desk.heap; b'.'; expected.len()]?;
     let (answer, end) = write(desk, ns, &mut page)?;
-    assert_eq!(rt; answer, ACCEPTED);
-    assert_eq!(rt; end, text.len());
-    assert!(rt; page.as_slice() == expected.as_slice());
+    assert_eq!(rt; answer, ACCEPTED, "case {case}");
+    assert_eq!(rt; end, text.len(), "case {case}");
+    assert!(rt; page.as_slice() == expected.as_slice(), "case {case}");
     Ok(())
 }
 
 // On a page of so many dots writing is declined, and the dots stay.
 fn declines(
     rt: &impl Abort,
+    case: usize,
     desk: &Desk,
     ns: Contents,
     size: usize,
@@ -112,31 +114,38 @@ fn declines(
 ) -> Result<(), Fail> {
     let mut page = vec![in desk.heap; b'.'; size]?;
     let (answer, _) = write(desk, ns, &mut page)?;
-    assert_eq!(rt; answer, expected);
+    assert_eq!(rt; answer, expected, "case {case}");
     for x in &page {
-        assert_eq!(rt; *x, b'.');
+        assert_eq!(rt; *x, b'.', "case {case}");
     }
     Ok(())
 }
 
 // Writing these lists leaves the text on a page that has room.
-fn fits(rt: &impl Abort, desk: &Desk, ns: Contents, text: &[u8]) -> Result<(), Fail> {
-    leaves(rt, desk, ns, text, 0)?;
-    leaves(rt, desk, ns, text, 1)?;
-    leaves(rt, desk, ns, text, 100)?;
-    declines(rt, desk, ns, text.len().saturating_sub(1), NO_ROOM)?;
-    declines(rt, desk, ns, 0, NO_ROOM)
+fn fits(rt: &impl Abort, case: usize, desk: &Desk, ns: Contents, text: &[u8]) -> Result<(), Fail> {
+    leaves(rt, case, desk, ns, text, 0)?;
+    leaves(rt, case, desk, ns, text, 1)?;
+    leaves(rt, case, desk, ns, text, 100)?;
+    declines(rt, case, desk, ns, text.len().saturating_sub(1), NO_ROOM)?;
+    declines(rt, case, desk, ns, 0, NO_ROOM)
 }
 
 // Lists that are declined with this answer, whatever the page.
-fn declines_all(rt: &impl Abort, desk: &Desk, ns: Contents, expected: Answer) -> Result<(), Fail> {
-    declines(rt, desk, ns, 0, expected)?;
-    declines(rt, desk, ns, 70000, expected)
+fn declines_all(
+    rt: &impl Abort,
+    case: usize,
+    desk: &Desk,
+    ns: Contents,
+    expected: Answer,
+) -> Result<(), Fail> {
+    declines(rt, case, desk, ns, 0, expected)?;
+    declines(rt, case, desk, ns, 70000, expected)
 }
 
 // What is answered to writing a draft.
 fn judge_written(
     rt: &impl Abort,
+    case: usize,
     heap: Global,
     draft: &Draft,
     text: &[u8],
@@ -144,45 +153,51 @@ fn judge_written(
 ) -> Result<(), Fail> {
     let desk = lists_of(heap, draft)?;
     if expected.number == 0 {
-        fits(rt, &desk, contents(draft.contents), text)
+        fits(rt, case, &desk, contents(draft.contents), text)
     } else {
-        declines_all(rt, &desk, contents(draft.contents), expected)
+        declines_all(rt, case, &desk, contents(draft.contents), expected)
     }
 }
 
 // What is answered to reading a text.
-fn judge_read(rt: &impl Abort, heap: Global, text: &[u8], expected: Answer) -> Result<(), Fail> {
+fn judge_read(
+    rt: &impl Abort,
+    case: usize,
+    heap: Global,
+    text: &[u8],
+    expected: Answer,
+) -> Result<(), Fail> {
     let mut desk = Desk::new(heap)?;
-    assert_eq!(rt; desk.answer(text)?, expected);
+    assert_eq!(rt; desk.answer(rt, text)?, expected, "case {case}");
     Ok(())
 }
 
 // A draft is written and read with one answer.
-fn judge(rt: &impl Abort, heap: Global, draft: &Draft) -> Result<(), Fail> {
+fn judge(rt: &impl Abort, case: usize, heap: Global, draft: &Draft) -> Result<(), Fail> {
     let expected = Answer {
         number: draft.number,
         line: draft.line,
     };
     let text = text_of(heap, draft)?;
-    judge_read(rt, heap, text.as_bytes(), expected)?;
-    judge_written(rt, heap, draft, text.as_bytes(), expected)
+    judge_read(rt, case, heap, text.as_bytes(), expected)?;
+    judge_written(rt, case, heap, draft, text.as_bytes(), expected)
 }
 
 // A sheet that is read is written the same.
-fn returns(rt: &impl Abort, heap: Global, sheet: &[u8]) -> Result<(), Fail> {
+fn returns(rt: &impl Abort, case: usize, heap: Global, sheet: &[u8]) -> Result<(), Fail> {
     let mut desk = Desk::new(heap)?;
     let (answer, ns) = desk.read(sheet)?;
-    assert_eq!(rt; answer, ACCEPTED);
-    fits(rt, &desk, ns, sheet)
+    assert_eq!(rt; answer, ACCEPTED, "case {case}");
+    fits(rt, case, &desk, ns, sheet)
 }
 
 #[test]
 fn sheets_written(rt: HostRuntime) -> Result<(), Fail> {
     for (i, draft) in DRAFTS.iter().enumerate() {
-        judge(&rt, rt.alloc(), draft).note(i)?;
+        judge(&rt, i, rt.alloc(), draft)?;
     }
     let sheet = largest(rt.alloc())?;
-    returns(&rt, rt.alloc(), sheet.as_bytes())
+    returns(&rt, DRAFTS.len(), rt.alloc(), sheet.as_bytes())
 }
 
 /// Lists of so many entries, of which so many links take five bytes and the others four, each with its line feed.
@@ -242,20 +257,20 @@ fn put_longer(list: &mut [LinkLine], count: usize) {
     }
 }
 
-fn judge_lent(rt: &impl Abort, heap: Global, lent: &Lent) -> Result<(), Fail> {
+fn judge_lent(rt: &impl Abort, case: usize, heap: Global, lent: &Lent) -> Result<(), Fail> {
     let mut desk = Desk::sized(heap, lent.lists[0], lent.lists[1], lent.lists[2])?;
     put_longer(&mut desk.links, lent.longer);
     let expected = Answer {
         number: lent.number,
         line: lent.line,
     };
-    declines_all(rt, &desk, contents(lent.contents), expected)
+    declines_all(rt, case, &desk, contents(lent.contents), expected)
 }
 
 #[test]
 fn lists_lent(rt: HostRuntime) -> Result<(), Fail> {
     for (i, lent) in LENT.iter().enumerate() {
-        judge_lent(&rt, rt.alloc(), lent).note(i)?;
+        judge_lent(&rt, i, rt.alloc(), lent)?;
     }
     Ok(())
 }
