@@ -1,5 +1,5 @@
 -- Registers of a protocol and then others: what is told, what a turn makes of them, and whether they changed.
-use Rattle.std.proofs.Common.{◌≡◌, ℕ, ◌<◌, Bool, ◌||◌, List, ◌++◌, length, Ok, sym, ap, ◌∙◌, ap₂}
+use Rattle.std.proofs.Common.{◌≡◌, ℕ, Bool, ◌||◌, List, ◌++◌, length, Ok, sym, ap, ◌∙◌, ap₂}
 use Rattle.std.proofs.lemmas.List.{take_at, drop_at}
 use Rattle.graph.specs.Model.{Model}
 use Rattle.protocol.specs.declared.Output.{Output}

@@ -1,5 +1,5 @@
 -- Bits of a number, and how many are set.
-use Rattle.std.proofs.Common.{◌≡◌, ℕ, zero, suc, ◌+◌, ◌-◌, ◌*◌, ◌/◌, ◌%◌, ◌^◌, ◌<◌, ◌≤◌, Bool, true, false, cond, ◌||◌, eqb, ◌⊎◌, List, length, get_or, set, replicate, sym, refl, ap, ◌∙◌, subst, ap₂, inl, inr, ⊎_elim, add-zero, add_assoc, mod-lt, suc-add, one-mul, pow-suc, zero-add, div-one, add-one, arith, lit<, get_or-set_other, get_or-set_same, pow_pos, pow-add, shl_exact, shr-shr, shr_lt}
+use Rattle.std.proofs.Common.{◌≡◌, ℕ, zero, suc, ◌+◌, ◌-◌, ◌*◌, ◌/◌, ◌%◌, ◌^◌, ◌<◌, Bool, true, cond, ◌||◌, eqb, ◌⊎◌, List, length, get_or, set, replicate, sym, refl, ap, ◌∙◌, subst, ap₂, inl, inr, ⊎_elim, add-zero, mod-lt, suc-add, one-mul, pow-suc, zero-add, div-one, add-one, arith, lit<, get_or-set_other, get_or-set_same, pow_pos, pow-add, shl_exact, shr-shr, shr_lt}
 use native.Mathlib.Nat.{div-eq_of_lt, mul-mod_left, div_self}
 use lib.Arith.{digits_div, digits_mod, lt-one}
 use lib.Bits.{bit_or, or_shr, or_mod, or_zero_r, or_zero_l, or_self}

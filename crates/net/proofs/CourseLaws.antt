@@ -1,20 +1,19 @@
 -- Draws from counters at zero, up to the bound.
-use Rattle.std.proofs.Common.{◌≡◌, ℕ, zero, suc, ◌*◌, ◌<◌, ◌≤◌, min, ◌⊎◌, List, [], ◌∷◌, ◌++◌, length, Ok, Err, Result, sym, refl, ap, ◌∙◌, subst, inl, inr, ⊎_elim, arith}
+use Rattle.std.proofs.Common.{◌≡◌, ℕ, zero, suc, ◌*◌, ◌<◌, ◌≤◌, List, [], ◌∷◌, ◌++◌, length, Ok, Err, Result, sym, refl, ap, ◌∙◌, subst, ⊎_elim, arith}
 use Rattle.std.proofs.lemmas.Bool.{cases_lt}
 use Rattle.refusal.specs.declared.Refusal.{Refusal}
-use Rattle.graph.specs.Model.{Model}
 use Rattle.rounds.specs.Rounds.{Completes, Splits}
 use Rattle.rounds.specs.Runs.{run}
 use Rattle.rounds.proofs.RoundsLaws.{grows, nil_covers_none, splits_completes, unique}
 use Rattle.site.specs.Sites.{model}
-use Rattle.protocol.specs.Protocols.{Protocol, Laws, Registers, told_bound, turn_budget}
+use Rattle.protocol.specs.Protocols.{Laws, Registers, told_bound, turn_budget}
 use Rattle.silent.specs.declared.Silent.{Ghosts}
 use Rattle.daemon.specs.declared.Daemon as daemon
 use Rattle.daemon.specs.Dues as dues
 use Rattle.daemon.specs.Dues.{Askings, Dues, Run, Timely}
 use Rattle.daemon.proofs.AskingsLaws.{completes_rounds}
 use Rattle.promise.specs.declared.Drawn.{Drawn}
-use Rattle.promise.specs.Nets.{Asked, Step, draw}
+use Rattle.promise.specs.Nets.{Asked, Step}
 use Rattle.promise.proofs.Right.{last_told}
 use Rattle.promise.proofs.Sound.{Core, core_fresh, core_turned, sized_run, equal, below}
 use Rattle.net.specs.declared.net.Net.{Net}

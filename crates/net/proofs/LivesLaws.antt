@@ -1,5 +1,5 @@
 -- Set-up begins a life of a net, and each call goes on with it.
-use Rattle.std.proofs.Common.{◌≡◌, ℕ, List, [], ◌∷◌, ap, ◌∙◌, subst}
+use Rattle.std.proofs.Common.{ℕ, List, [], ◌∷◌, ap, ◌∙◌, subst}
 use Rattle.site.specs.declared.site.Site.{Site}
 use Rattle.site.specs.Sites.{model}
 use Rattle.silent.specs.declared.Silent.{Ghosts}

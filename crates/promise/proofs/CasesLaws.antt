@@ -1,5 +1,5 @@
 -- The rounds and awaited nodes of the worked examples.
-use Rattle.std.proofs.Common.{◌≡◌, ℕ, ◌-◌, ◌<◌, Bool, false, List, [], ◌∷◌, refl, ap, ◌∙◌, subst, lit<}
+use Rattle.std.proofs.Common.{◌≡◌, ℕ, ◌-◌, Bool, false, List, [], ◌∷◌, refl, ap, ◌∙◌, subst, lit<}
 use Rattle.lists.specs.Members.{Among}
 use Rattle.rounds.specs.Forest.{Counted as CountedNodes}
 use Rattle.rounds.specs.Marks.{Tracks, marked, count_marked}
@@ -9,7 +9,7 @@ use Rattle.rounds.proofs.Counting.{counted_unique}
 use Rattle.protocol.specs.Cases.{five}
 use Rattle.protocol.proofs.CasesLaws.{table as protocol_table}
 use Rattle.protocol.specs.Protocols.{Protocol, Laws}
-use Rattle.promise.specs.Cases.{Counted, Table, TableStands}
+use Rattle.promise.specs.Cases.{Counted, TableStands}
 use Rattle.promise.proofs.Sound.{sound}
 
 -- a list of turns has one counter

@@ -1,15 +1,15 @@
 -- The promise, from the laws of a protocol alone.
-use Rattle.std.proofs.Common.{◌≡◌, ℕ, ◌<◌, ◌≤◌, true, false, ◌⊎◌, List, ◌++◌, Ok, Err, sym, subst, inl, inr, arith}
+use Rattle.std.proofs.Common.{◌≡◌, ℕ, ◌<◌, false, ◌⊎◌, List, ◌++◌, Ok, Err, sym, subst, inl, inr, arith}
 use Rattle.std.proofs.lemmas.Bool.{cases_Bool, both_ways}
-use Rattle.refusal.specs.Checks.{Checks, First, Free}
+use Rattle.refusal.specs.Checks.{Free}
 use Rattle.graph.specs.Model.{Model}
 use Rattle.protocol.specs.Protocols.{Protocol, Laws, told_bound}
 use Rattle.promise.specs.Nets.{State, Hold, lift, Answer, checks, Step}
-use Rattle.promise.specs.History.{Event, accepted, since, registers, is_held, Rounds, Early, Reached, standing_after}
+use Rattle.promise.specs.History.{Event, accepted, since, registers, is_held, Rounds, Reached, standing_after}
 use Rattle.promise.specs.Promise.{Settled, Granted, Owed, Promise}
 use Rattle.promise.proofs.Sound.{unless, equal, Sound, sound}
 use Rattle.promise.proofs.Checked.{free_first}
-use Rattle.promise.proofs.Right.{same_rounds, now, right, tells}
+use Rattle.promise.proofs.Right.{same_rounds, now, right}
 use Rattle.promise.proofs.Rests.{accepted_append, settled}
 use Rattle.promise.proofs.Patient.{drawn_rounds}
 

@@ -1,12 +1,12 @@
 -- Once the rounds have reached the told bound, nothing changes until the next fault.
-use Rattle.std.proofs.Common.{◌≡◌, ℕ, ◌+◌, ◌<◌, ◌≤◌, min, List, [], ◌∷◌, ◌++◌, length, sym, refl, ap, ◌∙◌, subst, append_assoc, append-nil, arith, length-append}
+use Rattle.std.proofs.Common.{◌≡◌, ℕ, ◌<◌, ◌≤◌, List, [], ◌∷◌, ◌++◌, length, sym, refl, ap, ◌∙◌, subst, append_assoc, append-nil, arith, length-append}
 use Rattle.graph.specs.Model.{Model}
 use Rattle.rounds.specs.Runs.{run, Below}
-use Rattle.rounds.proofs.RoundsLaws.{splits_completes, completes_fewer, rounds_below_turns_lem}
+use Rattle.rounds.proofs.RoundsLaws.{splits_completes, rounds_below_turns_lem}
 use Rattle.rounds.proofs.RunsLaws.{below_left, below_right, run_append, rests}
-use Rattle.protocol.specs.Protocols.{Protocol, Registers, Laws, told_bound}
+use Rattle.protocol.specs.Protocols.{Protocol, Registers, Laws}
 use Rattle.promise.specs.Nets.{State}
-use Rattle.promise.specs.History.{Event, turned, drawn, faulted, held, released, Exchange, events, accepted, since, registers, left, Calm, Rounds, Reached}
+use Rattle.promise.specs.History.{Event, turned, drawn, faulted, held, released, Exchange, events, accepted, since, registers, left, Calm, Reached}
 use Rattle.promise.specs.Promise.{Settled}
 use Rattle.promise.proofs.Sound.{sized_run, ran, Sound}
 

@@ -1,11 +1,8 @@
 -- Each call is accepted just where no check over the history fails, and tells what the history makes.
-use Rattle.std.proofs.Common.{◌≡◌, ℕ, zero, suc, ◌+◌, ◌-◌, ◌<◌, ◌≤◌, Bool, true, false, ◌⊎◌, List, [], ◌∷◌, ◌++◌, length, get_or, Ok, Err, sym, refl, ap, ◌∙◌, subst, inl, inr, arith, length-append}
-use Rattle.std.proofs.lemmas.Bool.{cases_lt}
+use Rattle.std.proofs.Common.{◌≡◌, ℕ, zero, suc, ◌<◌, ◌≤◌, Bool, true, false, List, ◌∷◌, length, get_or, Ok, Err, sym, refl, ap, ◌∙◌, subst, arith, length-append}
 use Rattle.refusal.specs.declared.Refusal.{Refusal}
 use Rattle.refusal.specs.Checks.{First, Free}
-use Rattle.lists.specs.Members.{Among}
 use Rattle.graph.specs.Model.{Model}
-use Rattle.rounds.specs.Rounds.{Splits}
 use Rattle.rounds.specs.Runs.{run, Below}
 use Rattle.rounds.specs.Marks.{count_marked}
 use Rattle.rounds.specs.Changes.{Last}

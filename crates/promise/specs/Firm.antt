@@ -1,13 +1,12 @@
 -- What a net is said to do leaves no choice: every call has an answer, and only one, and leaves one state; and the numbers told are fixed.
-use Rattle.std.specs.Prelude.{◌≡◌, ℕ, ◌<◌, ◌≤◌, List, [], ◌∷◌, replicate, Ok, Err, Result}
+use Rattle.std.specs.Prelude.{◌≡◌, ℕ, ◌<◌, ◌≤◌, List, replicate, Ok, Err, Result}
 use Rattle.refusal.specs.declared.Refusal.{Refusal}
 use Rattle.refusal.specs.declared.Refusal.TheVariants.{Exhausted}
 use Rattle.graph.specs.Model.{Model}
 use Rattle.rounds.specs.Changes.{Last}
-use Rattle.protocol.specs.Protocols.{Protocol, turn_budget, told_bound}
+use Rattle.protocol.specs.Protocols.{Protocol, turn_budget}
 use Rattle.promise.specs.declared.Drawn.{Drawn}
-use Rattle.promise.specs.declared.Lifted.{Lifted}
-use Rattle.promise.specs.Nets.{State, Daemon, Asked, Hold, Call, turn, draw, fault, ask, ask_held, read, tell, hold, lift, cancel, Answer, Step}
+use Rattle.promise.specs.Nets.{State, Daemon, Asked, Call, turn, draw, fault, ask, ask_held, read, tell, hold, lift, cancel, Answer, Step}
 use Rattle.promise.specs.History.{Rounds, Awaited}
 
 -- two states that no call tells apart: of nodes past the last, no mark is looked at

@@ -1,5 +1,5 @@
 -- A net as plain data: its calls, the checks of each in their order, and for each answer what it leaves.
-use Rattle.std.specs.Prelude.{◌≡◌, ℕ, ◌+◌, ◌-◌, ◌<◌, ◌≤◌, Bool, true, false, cond, ◌⊎◌, List, [], ◌∷◌, set, Ok, Err, Result, ◌≢◌, slice_index, slice_set}
+use Rattle.std.specs.Prelude.{◌≡◌, ℕ, ◌+◌, ◌-◌, ◌<◌, ◌≤◌, Bool, true, false, cond, ◌⊎◌, List, [], ◌∷◌, Ok, Err, Result, ◌≢◌, slice_index, slice_set}
 use Rattle.refusal.specs.declared.Refusal.{Refusal}
 use Rattle.refusal.specs.declared.Refusal.TheVariants.{Limit, Place, Node, Exhausted, Early, Held, Foreign, Mismatch}
 use Rattle.refusal.specs.Checks.{Checks, First, Free}

@@ -9,9 +9,9 @@ use Rattle.graph.proofs.Heights.{distance_is}
 use Rattle.protocol.specs.declared.Output.{Output}
 use Rattle.protocol.specs.Outputs.{plain}
 use Rattle.protocol.specs.Gather.{gathered}
-use Rattle.protocol.specs.Count.{counting, count}
-use Rattle.protocol.specs.Rank.{counts_before, RanksRight, rank}
-use Rattle.protocol.specs.Tree.{tree, tree_parent}
+use Rattle.protocol.specs.Count.{counting}
+use Rattle.protocol.specs.Rank.{counts_before, RanksRight}
+use Rattle.protocol.specs.Tree.{tree_parent}
 use Rattle.protocol.specs.Matching.{Rule, M0, M1, M2, M3, Stays, Asks, place, register}
 use Rattle.protocol.specs.Cases.{five, five_distance, five_tells, single, path, named, Exactly, Table}
 use Rattle.protocol.proofs.TreeParents.{parent_legitimate, legitimate_tall}

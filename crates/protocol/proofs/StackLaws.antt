@@ -13,7 +13,7 @@ use Rattle.protocol.specs.Protocols.{Protocol, Registers, Laws}
 use Rattle.protocol.specs.Layers.{Layer, Near, children}
 use Rattle.protocol.specs.Gather.{Gathering}
 use Rattle.protocol.specs.Count.{CountsRight, count}
-use Rattle.protocol.specs.Rank.{RanksRight, ranker, rank}
+use Rattle.protocol.specs.Rank.{RanksRight, ranker}
 use Rattle.protocol.specs.Tree.{BreadthFirst, Legitimate, tree}
 use Rattle.protocol.specs.Matching.{MaximalMatching, matching}
 use Rattle.protocol.specs.Stack.{LayersStand, tour, stack, Counts, Tours, Tells, Agree, StackStands}

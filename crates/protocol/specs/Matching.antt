@@ -1,6 +1,6 @@
 -- The maximal matching: nodes name neighbours, and two that name each other are mates.
 -- Each node has one register: 0 for none, or the number of the node that it names plus 1.
-use Rattle.std.specs.Prelude.{◌≡◌, ℕ, zero, suc, ◌+◌, ◌*◌, ◌/◌, ◌<◌, cond, ◌⊎◌, List, set, Some, None, Option, ◌==◌, ◌≢◌, nat_eq, slice_index, slice_set}
+use Rattle.std.specs.Prelude.{◌≡◌, ℕ, zero, suc, ◌+◌, ◌*◌, ◌/◌, ◌<◌, cond, ◌⊎◌, List, Some, None, Option, ◌==◌, ◌≢◌, nat_eq, slice_index, slice_set}
 use Rattle.lists.specs.Members.{Among}
 use Rattle.graph.specs.Model.{Model, ports, Proper}
 use Rattle.protocol.specs.declared.Output.{Output}

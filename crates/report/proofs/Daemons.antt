@@ -1,13 +1,13 @@
 -- The daemon of a sheet: it is made, it gives every node its turns in time, and it names the nodes in order.
-use Rattle.std.proofs.Common.{◌≡◌, ℕ, suc, ◌+◌, ◌*◌, ◌%◌, ◌<◌, ◌≤◌, List, [], ◌∷◌, map, length, get_or, Ok, Err, sym, refl, ap, ◌∙◌, subst, inl, inr, ⊎_elim, arith}
+use Rattle.std.proofs.Common.{◌≡◌, ℕ, ◌+◌, ◌%◌, ◌<◌, ◌≤◌, List, [], ◌∷◌, length, get_or, Ok, Err, sym, refl, ap, ◌∙◌, inl, inr, ⊎_elim, arith}
 use Rattle.std.specs.List.{AllByRecursion as All}
 use Rattle.std.proofs.lemmas.Nat.{mul-le}
 use Rattle.std.proofs.lemmas.Bool.{cases_lt}
 use Rattle.refusal.specs.declared.Refusal.{Refusal}
-use Rattle.refusal.specs.Checks.{First, Free}
+use Rattle.refusal.specs.Checks.{Free}
 use Rattle.lists.specs.Members.{Among}
 use Rattle.text.specs.declared.records.TurnLine.{TurnLine}
-use Rattle.protocol.specs.Protocols.{told_bound, turn_budget}
+use Rattle.protocol.specs.Protocols.{told_bound}
 use Rattle.silent.specs.declared.Silent.{Ghosts}
 use Rattle.daemon.specs.Dues.{Run}
 use Rattle.daemon.specs.RoundRobins.{RobinAsked, RobinMade}
@@ -19,7 +19,6 @@ use Rattle.daemon.specs.declared.script.Script.{Script}
 use Rattle.daemon.specs.contracts.robin.calls.RoundRobinDaemon.TheImpl as robin
 use Rattle.daemon.specs.contracts.script.calls.ScriptDaemon.TheImpl as script
 use Rattle.daemon.proofs.OrdersLaws.{robin_order, script_order}
-use Rattle.daemon.specs.ScriptSound.{free_below}
 use Rattle.promise.specs.Nets.{Fresh}
 use Rattle.promise.proofs.Checked.{free_first}
 use Rattle.net.specs.declared.net.Net.{Net}

@@ -1,8 +1,8 @@
 -- The line of a declined sheet is no further than its bytes.
-use Rattle.std.proofs.Common.{◌≡◌, ℕ, ◌+◌, ◌<◌, ◌≤◌, ◌⊎◌, List, [], ◌∷◌, ◌++◌, length, Ok, Err, Option, Result, sym, refl, ap, ◌∙◌, subst, inl, inr, ⊎_elim, arith, length-append}
+use Rattle.std.proofs.Common.{◌≡◌, ℕ, ◌+◌, ◌<◌, ◌≤◌, ◌⊎◌, List, [], ◌∷◌, ◌++◌, length, Ok, Err, Option, Result, ap, ◌∙◌, inl, inr, ⊎_elim, arith, length-append}
 use Rattle.std.proofs.lemmas.Bool.{cases_lt}
 use Rattle.refusal.specs.declared.Refusal.{Refusal}
-use Rattle.refusal.specs.declared.Refusal.TheVariants.{Limit, Missing, Short, Unreached}
+use Rattle.refusal.specs.declared.Refusal.TheVariants.{Missing, Short, Unreached}
 use Rattle.graph.specs.Model.{Reached}
 use Rattle.site.specs.declared.site.Site.{Site}
 use Rattle.text.specs.Faults.{line_of_fault}

@@ -1,20 +1,13 @@
 -- The run that a sheet asks for: the registers that its faults leave, the turns that its daemon names, and what is told at the end.
 use Rattle.std.specs.Prelude.{◌≡◌, ℕ, ◌%◌, ◌<◌, ◌≤◌, List, [], ◌∷◌, map, length, slice_index, slice_set}
-use Rattle.std.specs.List.{AllByRecursion as All}
 use Rattle.refusal.specs.Checks.{Free}
-use Rattle.graph.specs.Model.{Model}
-use Rattle.rounds.specs.Changes.{Last}
-use Rattle.rounds.specs.Rounds.{Splits}
-use Rattle.rounds.specs.Runs.{run}
-use Rattle.protocol.specs.Protocols.{Protocol, told_bound}
-use Rattle.protocol.specs.declared.Output.{Output}
 use Rattle.text.specs.declared.records.FaultLine.{FaultLine}
 use Rattle.text.specs.declared.records.TurnLine.{TurnLine}
 use Rattle.silent.specs.declared.Silent.{Ghosts}
 use Rattle.daemon.specs.ScriptChecks.{script_checks}
 use Rattle.promise.specs.Nets.{Fresh}
 use Rattle.net.specs.declared.net.Net.{Net}
-use Rattle.net.specs.Calls.{Stays, at, meant, state}
+use Rattle.net.specs.Calls.{Stays, at, state}
 use Rattle.net.specs.Settling.{Whole}
 
 -- each fault writes one register

@@ -1,13 +1,12 @@
 -- A body grows line by line, and ends where a line is refused.
-use Rattle.std.proofs.Common.{◌≡◌, ℕ, ◌+◌, ◌<◌, ◌≤◌, List, [], ◌∷◌, ◌++◌, length, get_or, take, drop, Ok, Err, Result, sym, refl, ap, ◌∙◌, subst, append_assoc, arith, take-append-drop}
-use Rattle.std.proofs.lemmas.List.{append-nil, drop_more, flat_map_more, length_push, length-take-le, take_more}
-use Rattle.std.specs.List.{flat_map}
+use Rattle.std.proofs.Common.{◌≡◌, ℕ, ◌+◌, ◌<◌, ◌≤◌, List, [], ◌∷◌, ◌++◌, length, get_or, take, drop, Ok, Err, sym, refl, ap, ◌∙◌, subst, append_assoc, arith, take-append-drop}
+use Rattle.std.proofs.lemmas.List.{append-nil, drop_more, flat_map_more, length_push, length-take-le}
 use Rattle.refusal.specs.declared.Refusal.{Refusal}
 use Rattle.refusal.specs.Checks.{First, Free}
 use Rattle.text.specs.Spots.{Spot, Takes}
 use Rattle.sheet.specs.declared.fault.SheetFault.{SheetFault}
 use Rattle.sheet.specs.declared.fault.SheetFault.TheVariants.{Refused}
-use Rattle.sheet.specs.Body.{Body, BodyRead, Front, Good, Out, Refuses, Rules, passed, refused, written}
+use Rattle.sheet.specs.Body.{Body, BodyRead, Front, Good, Rules, passed, refused, written}
 
 module _ {X : Type 0} (bytes : X → List ℕ) (rules : Rules X) (k : ℕ) where
   pub good_push : (before xs : List X) (x : X) → Good rules k before xs → Free (rules k (before ++ xs) x) → Good rules k before (xs ++ (x ∷ []))

@@ -1,5 +1,5 @@
 -- What the writer's checks find is what reading would find.
-use Rattle.std.proofs.Common.{◌≡◌, ℕ, ◌+◌, ◌<◌, ◌≤◌, ◌⊎◌, List, [], ◌∷◌, ◌++◌, length, take, Ok, Err, Result, sym, refl, ap, ◌∙◌, subst, inl, inr, ⊎_elim, arith}
+use Rattle.std.proofs.Common.{◌≡◌, ℕ, ◌+◌, ◌<◌, List, [], ◌++◌, length, Ok, Err, Result, refl, subst, inl, ⊎_elim}
 use Rattle.std.proofs.lemmas.List.{append-nil}
 use Rattle.lists.specs.Members.{Among}
 use Rattle.lists.proofs.Decisions.{all_below?, among_number?}
@@ -12,7 +12,7 @@ use Rattle.text.specs.declared.records.TurnLine.{TurnLine}
 use Rattle.sheet.specs.declared.contents.Contents.{Contents}
 use Rattle.sheet.specs.declared.fault.SheetFault.{SheetFault}
 use Rattle.sheet.specs.declared.fault.SheetFault.TheVariants.{Refused}
-use Rattle.sheet.specs.Body.{Body, BodyChecked, Good, passed, refused, written}
+use Rattle.sheet.specs.Body.{Body, BodyChecked, Good, refused, written}
 use Rattle.sheet.specs.Checking.{ContentsChecked, LinesChecked, LinksChecked, TurnsChecked, ahead}
 use Rattle.sheet.specs.Judge.{Lists, Named, places, turn_lines}
 use Rattle.sheet.specs.Kinds.{contents_rules, fault_rules, link_rules, site_of, turn_rules}

@@ -1,5 +1,5 @@
 -- An accepted sheet is byte for byte what is written of its contents, and what is written of a proper one is accepted.
-use Rattle.std.proofs.Common.{◌≡◌, ℕ, ◌+◌, ◌<◌, ◌≤◌, List, [], ◌∷◌, ◌++◌, length, take, Ok, Err, Result, sym, refl, ap, ◌∙◌, subst, arith}
+use Rattle.std.proofs.Common.{◌≡◌, ℕ, ◌+◌, ◌<◌, List, [], ◌++◌, length, Ok, Err, Result, sym, refl, ap, ◌∙◌, subst, arith}
 use Rattle.std.proofs.lemmas.List.{append-nil}
 use Rattle.text.specs.Spots.{Spot}
 use Rattle.text.specs.declared.contents.ContentsLine.{ContentsLine}
@@ -7,10 +7,10 @@ use Rattle.text.specs.declared.records.LinkLine.{LinkLine}
 use Rattle.text.specs.declared.records.TurnLine.{TurnLine}
 use Rattle.sheet.specs.declared.contents.Contents.{Contents}
 use Rattle.sheet.specs.declared.fault.SheetFault.{SheetFault}
-use Rattle.sheet.specs.Body.{Body, Front, passed, refused, written}
+use Rattle.sheet.specs.Body.{Front, passed, written}
 use Rattle.text.specs.Lines.{contents_bytes, link_bytes, fault_bytes, turn_bytes}
-use Rattle.sheet.specs.Kinds.{contents_rules, link_rules, fault_rules, turn_rules}
-use Rattle.sheet.specs.Judge.{Lists, Sheet, Accepts, contents, link_lines, lines, numbers, places, start, turn_lines}
+use Rattle.sheet.specs.Kinds.{link_rules, fault_rules, turn_rules}
+use Rattle.sheet.specs.Judge.{Lists, Sheet, Accepts, contents, link_lines, lines, places, start, turn_lines}
 use Rattle.sheet.specs.Sheets.{Back, Exact, Judged, Proper, Within, body_bytes, gives, heads, sheet_bytes}
 use Rattle.sheet.proofs.Heads.{good_heads, heads_good}
 use Rattle.sheet.proofs.Judgement.{sole}

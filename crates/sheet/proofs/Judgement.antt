@@ -1,14 +1,14 @@
 -- The judgement of a sheet gives one outcome.
-use Rattle.std.proofs.Common.{◌≡◌, ℕ, ◌<◌, List, [], ◌∷◌, length, Ok, Err, Result, sym, refl, ap, ◌∙◌, subst}
+use Rattle.std.proofs.Common.{◌≡◌, ℕ, ◌<◌, List, length, Ok, Err, Result, sym, ap, ◌∙◌}
 use Rattle.refusal.specs.declared.Refusal.TheVariants.{Limit, Unreached, Missing}
 use Rattle.graph.specs.Model.{Reached}
 use Rattle.text.specs.Spots.{Spot}
 use Rattle.sheet.specs.declared.contents.Contents.{Contents}
 use Rattle.sheet.specs.declared.fault.SheetFault.{SheetFault}
 use Rattle.sheet.specs.Body.{Body, Out, passed, refused}
-use Rattle.text.specs.Lines.{contents_bytes, link_bytes, fault_bytes, turn_bytes}
+use Rattle.text.specs.Lines.{contents_bytes}
 use Rattle.sheet.specs.Kinds.{contents_rules, link_rules, fault_rules, turn_rules, site_of}
-use Rattle.sheet.specs.Judge.{Lists, Named, Sheet, Accepts, Declines, contents, give, link_lines, lines, numbers, places, sheet, start, turn_lines}
+use Rattle.sheet.specs.Judge.{Lists, Named, Sheet, contents, give, link_lines, lines, numbers, places, sheet, start, turn_lines}
 use Rattle.sheet.specs.Sheets.{Judged, Sole, gives}
 use Rattle.sheet.proofs.Forms.{contents_kind, link_kind, fault_kind, turn_kind}
 use Rattle.sheet.proofs.Single.{Single, never, single_body, single_ending, single_give, single_refuse_if, single_then}

@@ -1,5 +1,5 @@
 -- The outcome of a whole sheet from those of its parts.
-use Rattle.std.proofs.Common.{◌≡◌, ℕ, ◌<◌, List, length, Ok, Err, Option, Result, sym, refl, ap, ◌∙◌, subst, inl, inr}
+use Rattle.std.proofs.Common.{◌≡◌, ℕ, ◌<◌, List, length, Ok, Option, Result, refl, subst, inl, inr}
 use Rattle.refusal.specs.declared.Refusal.TheVariants.{Limit}
 use Rattle.site.specs.declared.site.Site.{Site}
 use Rattle.text.specs.Spots.{Spot}
@@ -7,8 +7,8 @@ use Rattle.sheet.specs.declared.contents.Contents.{Contents}
 use Rattle.sheet.specs.declared.fault.SheetFault.{SheetFault}
 use Rattle.sheet.specs.declared.fault.SheetFault.TheVariants.{Refused}
 use Rattle.sheet.specs.Body.{passed, refused}
-use Rattle.sheet.specs.Judge.{Accepts, Declines, Lists, Sheet, contents, lines, start}
-use Rattle.sheet.specs.Sheets.{Cleared, Judged, ReadSheet, Room, Sited, front, gives}
+use Rattle.sheet.specs.Judge.{Accepts, Declines, Lists, contents, lines, start}
+use Rattle.sheet.specs.Sheets.{Cleared, Judged, ReadSheet, Room, Sited, front}
 use Rattle.sheet.proofs.Exactly.{back, exactly}
 use Rattle.sheet.proofs.Judgement.{sole}
 

@@ -1,15 +1,14 @@
 -- Each stage of the judgement gives one outcome.
-use Rattle.std.proofs.Common.{◌≡◌, ℕ, ◌+◌, ◌<◌, ◌≤◌, ◌⊎◌, List, [], ◌∷◌, ◌++◌, length, Ok, Err, sym, refl, ap, ◌∙◌, subst, inl, inr, ⊎_elim, append_assoc, arith}
+use Rattle.std.proofs.Common.{◌≡◌, ℕ, ◌+◌, ◌≤◌, ◌⊎◌, List, [], ◌∷◌, ◌++◌, length, sym, refl, ap, ◌∙◌, subst, inl, inr, ⊎_elim, append_assoc, arith}
 use Rattle.std.proofs.lemmas.List.{append-nil}
-use Rattle.text.specs.Spots.{Spot, Takes, Why, AtEnd}
-use Rattle.text.specs.declared.fault.ScanFault.{ScanFault}
+use Rattle.text.specs.Spots.{Spot}
 use Rattle.text.specs.Cuts.{cut_once}
 use Rattle.text.proofs.Spots.{end_not, end_once, takes_not_why, why_once}
 use Rattle.refusal.specs.declared.Refusal.{Refusal}
 use Rattle.sheet.specs.declared.fault.SheetFault.{SheetFault}
 use Rattle.sheet.specs.declared.fault.SheetFault.TheVariants.{Scan, Refused}
 use Rattle.refusal.specs.Checks.{Checks, First, Free}
-use Rattle.sheet.specs.Body.{Rules, Good, Front, Refuses, Body, Out, passed, refused, written}
+use Rattle.sheet.specs.Body.{Rules, Good, Refuses, Body, Out, passed, refused, written}
 use Rattle.sheet.specs.Judge.{and_then, give, refuse_if, ending}
 use Rattle.sheet.proofs.Forms.{Kind}
 

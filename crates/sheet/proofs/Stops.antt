@@ -1,5 +1,5 @@
 -- Where the judgement of the lines after the contents stops.
-use Rattle.std.proofs.Common.{◌≡◌, ℕ, ◌<◌, List, [], length, Err, refl, inl, inr}
+use Rattle.std.proofs.Common.{◌≡◌, ◌<◌, List, [], length, Err, refl, inl, inr}
 use Rattle.refusal.specs.declared.Refusal.TheVariants.{Unreached, Missing}
 use Rattle.graph.specs.Model.{Reached}
 use Rattle.text.specs.Lines.{fault_bytes, link_bytes, turn_bytes}

@@ -1,5 +1,5 @@
 -- The checks of each kind of line, in order.
-use Rattle.std.specs.Prelude.{◌≡◌, ℕ, ◌<◌, ◌≤◌, List, [], ◌∷◌, map, length, ◌≢◌}
+use Rattle.std.specs.Prelude.{ℕ, ◌<◌, ◌≤◌, List, [], ◌∷◌, map, length, ◌≢◌}
 use Rattle.refusal.specs.declared.Refusal.TheVariants.{Form, Limit, Place, Node}
 use Rattle.graph.specs.Model.{Model}
 use Rattle.site.specs.Entering.{link_checks}

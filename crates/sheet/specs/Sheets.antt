@@ -1,5 +1,5 @@
 -- Whole sheets: how one is written, and what the calls that read and write one answer and leave.
-use Rattle.std.specs.Prelude.{◌≡◌, ℕ, ◌+◌, ◌<◌, ◌≤◌, ◌⊎◌, List, [], ◌∷◌, ◌++◌, length, take, Ok, Err, Option, Result, MatchOption, slice_index_or}
+use Rattle.std.specs.Prelude.{◌≡◌, ℕ, ◌<◌, ◌≤◌, ◌⊎◌, List, [], ◌∷◌, ◌++◌, length, take, Ok, Err, Option, Result, MatchOption, slice_index_or}
 use Rattle.refusal.specs.declared.Refusal.TheVariants.{Short}
 use Rattle.graph.specs.Model.{Reached}
 use Rattle.site.specs.declared.site.Site.{Site}

@@ -2,13 +2,12 @@
 use Rattle.std.specs.Prelude.{◌≡◌, ℕ, ◌≤◌, Bool, true, false, cond, List, [], ◌∷◌, length, ◌==◌, ◌≢◌, nat_lt, slice_index, refl}
 use Rattle.std.proofs.Common.{sym, ap, ◌∙◌, arith}
 use Rattle.std.proofs.lemmas.Bool.Decides.{nat_tests}
-use Rattle.text.specs.declared.contents.Word.{Word}
 use Rattle.text.specs.declared.contents.Word.TheVariants.{Nodes, Links, Faults, Turns}
 use Rattle.text.specs.declared.report.TallyWord.TheVariants.{Bound, Rounds, Last}
 use Rattle.text.specs.declared.field.Keyword.{Keyword}
 use Rattle.text.specs.declared.field.Keyword.TheVariants.{Contents, Tally, Refused, Absent}
 use Rattle.text.specs.Page.{Lacks}
-use Rattle.text.specs.Words.{letters, spelling}
+use Rattle.text.specs.Words.{spelling}
 
 -- the word that begins with these two letters
 abbrev begun : ℕ → ℕ → Keyword

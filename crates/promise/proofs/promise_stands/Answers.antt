@@ -1,4 +1,3 @@
-use Rattle.std.proofs.Common.{arith}
 use Rattle.promise.proofs.PromiseLaws.{promise}
 use Rattle.promise.proofs.FirmLaws.{firm}
 use Rattle.promise.proofs.promise_stands.Goals as goal

@@ -1,4 +1,4 @@
-use Rattle.std.proofs.Common.{◌≡◌, ℕ, ◌≤◌, List, subst, arith}
+use Rattle.std.proofs.Common.{ℕ, ◌≤◌, List, subst, arith}
 use Rattle.sheet.specs.Sheets.{lists}
 use Rattle.report.specs.Answers.{Put}
 use Rattle.report.proofs.Told.{program_low, told_bound, told_refusal}

@@ -1,4 +1,4 @@
-use Rattle.std.proofs.Common.{◌≡◌, ℕ, ◌+◌, ◌<◌, ◌≤◌, List, [], ◌∷◌, ◌++◌, length, set, sym, refl, ap, ◌∙◌, arith, length-append}
+use Rattle.std.proofs.Common.{ℕ, List, [], ◌∷◌, set, refl, ap, ◌∙◌, arith, length-append}
 use Rattle.text.specs.Page.{put}
 use Rattle.text.proofs.Pages.{length_put, put_one, put_put}
 use Rattle.report.proofs.answer.put_line.Goals as goal

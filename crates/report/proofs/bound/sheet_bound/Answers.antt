@@ -1,4 +1,4 @@
-use Rattle.std.proofs.Common.{◌≡◌, Some, Ok, Option, sym, ap, ◌∙◌, subst}
+use Rattle.std.proofs.Common.{Some, Ok, Option, ap, ◌∙◌, subst}
 use Rattle.graph.specs.Model.{Model}
 use Rattle.protocol.specs.Stack.{stack}
 use Rattle.site.specs.declared.site.Site.{Site}

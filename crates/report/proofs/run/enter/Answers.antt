@@ -1,4 +1,4 @@
-use Rattle.std.proofs.Common.{ℕ, List, take, sym, ap, subst}
+use Rattle.std.proofs.Common.{ℕ, List, sym, subst}
 use Rattle.std.proofs.lemmas.List.{take_all}
 use Rattle.text.specs.declared.records.FaultLine.{FaultLine}
 use Rattle.report.specs.Runs.{Entered, Fit}

@@ -1,4 +1,4 @@
-use Rattle.std.proofs.Common.{◌≡◌, ℕ, length, take, vec_items, vec_len}
+use Rattle.std.proofs.Common.{◌≡◌, length, take, vec_items, vec_len}
 use Rattle.report.specs.Runs.{names_of}
 use Rattle.report.proofs.run.nodes_of.Given as goal
 

@@ -1,4 +1,4 @@
-use Rattle.std.proofs.Common.{◌≡◌, ℕ, ◌<◌, ◌≤◌, List, map, length, Ok, Err, vec_items, sym, ap, ◌∙◌, subst, arith}
+use Rattle.std.proofs.Common.{◌≡◌, ℕ, ◌<◌, List, length, Ok, vec_items, sym, subst, arith}
 use Rattle.std.proofs.lemmas.List.{length-map}
 use Rattle.std.proofs.lemmas.Bool.{eqb-false, eqb-true}
 use Rattle.refusal.specs.Checks.{Free}
@@ -7,8 +7,7 @@ use Rattle.daemon.specs.Scripts.{ScriptOwned}
 use Rattle.daemon.specs.ScriptSound.{free_below}
 use Rattle.text.specs.declared.records.TurnLine.{TurnLine}
 use Rattle.site.proofs.Whole.{proper}
-use Rattle.net.specs.Calls.{at}
-use Rattle.report.specs.Runs.{Ordered, Scripted, names_of}
+use Rattle.report.specs.Runs.{Ordered, names_of}
 use Rattle.report.proofs.Daemons.{few_names, none_named, robin_able, robin_ordered, script_able, script_free, script_made, script_ordered}
 use Rattle.report.proofs.run.settle.Goals as goal
 

@@ -1,4 +1,4 @@
-use Rattle.std.proofs.Common.{ℕ, List, [], take}
+use Rattle.std.proofs.Common.{ℕ, [], take}
 use Rattle.sheet.specs.Body.{Good}
 use Rattle.sheet.proofs.body.check_body.Given as goal
 

@@ -1,4 +1,4 @@
-use Rattle.std.proofs.Common.{◌≡◌, ℕ, ◌≤◌, List, [], length, take, drop}
+use Rattle.std.proofs.Common.{◌≡◌, ℕ, [], take, drop}
 use Rattle.text.specs.Spots.{spot}
 use Rattle.sheet.specs.Body.{Front}
 use Rattle.sheet.proofs.body.read_body.Given as goal

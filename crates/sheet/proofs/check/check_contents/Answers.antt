@@ -1,4 +1,4 @@
-use Rattle.std.proofs.Common.{◌≡◌, List, subst}
+use Rattle.std.proofs.Common.{List, subst}
 use Rattle.text.specs.Lines.{contents_bytes}
 use Rattle.text.specs.declared.contents.ContentsLine.{ContentsLine}
 use Rattle.sheet.specs.Body.{BodyChecked}

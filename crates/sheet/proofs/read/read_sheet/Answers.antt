@@ -1,6 +1,5 @@
-use Rattle.std.proofs.Common.{◌≡◌, ℕ, List, length, take, Some, Ok, Err, sym, refl, ap, ◌∙◌, subst, arith}
+use Rattle.std.proofs.Common.{◌≡◌, ℕ, List, take, Some, Ok, Err, sym, refl, ap, ◌∙◌, subst, arith}
 use Rattle.text.specs.declared.records.LinkLine.{LinkLine}
-use Rattle.sheet.specs.Judge.{Lists}
 use Rattle.sheet.specs.Kinds.{site_of}
 use Rattle.sheet.specs.Sheets.{Zeros, front, lists, no_fault, no_link, no_turn}
 use Rattle.sheet.proofs.Outcomes.{judged_same, read_sheet_lem}

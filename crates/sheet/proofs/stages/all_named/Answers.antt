@@ -1,4 +1,4 @@
-use Rattle.std.proofs.Common.{◌≡◌, ℕ, sym, refl, ap, ◌∙◌, subst, arith, below_more}
+use Rattle.std.proofs.Common.{◌≡◌, ℕ, sym, ◌∙◌, arith, below_more}
 use Rattle.sheet.proofs.stages.all_named.Goals as goal
 
 pub returns-then-not-named : goal.returns-then-not-named

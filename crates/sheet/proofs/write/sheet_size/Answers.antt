@@ -1,4 +1,4 @@
-use Rattle.std.proofs.Common.{◌+◌, arith}
+use Rattle.std.proofs.Common.{arith}
 use Rattle.text.specs.Lines.{contents_bytes, fault_bytes, link_bytes, turn_bytes}
 use Rattle.sheet.specs.Body.{written}
 use Rattle.sheet.proofs.Proper.{four_sizes}

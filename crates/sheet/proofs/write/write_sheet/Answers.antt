@@ -1,12 +1,6 @@
-use Rattle.std.proofs.Common.{◌≡◌, ℕ, ◌<◌, ◌≤◌, List, length, take, sym, refl, ap, ◌∙◌, subst, inl, inr, arith, length-take}
+use Rattle.std.proofs.Common.{◌≡◌, ℕ, ◌<◌, ◌≤◌, List, length, take, ap, ◌∙◌, arith, length-take}
 use Rattle.std.proofs.lemmas.List.{length-take-le}
 use Rattle.std.proofs.lemmas.Result.{err_from_is_err_and}
-use Rattle.text.specs.declared.records.LinkLine.{LinkLine}
-use Rattle.text.specs.declared.records.FaultLine.{FaultLine}
-use Rattle.text.specs.declared.records.TurnLine.{TurnLine}
-use Rattle.sheet.specs.declared.contents.Contents.{Contents}
-use Rattle.sheet.specs.Checking.{Counts}
-use Rattle.sheet.specs.Judge.{Lists}
 use Rattle.sheet.specs.Sheets.{Room, front, lists}
 use Rattle.sheet.proofs.Proper.{wrote_all, wrote_declined, wrote_large, wrote_narrow}
 use Rattle.sheet.proofs.write.write_sheet.Goals as goal

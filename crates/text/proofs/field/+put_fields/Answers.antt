@@ -44,6 +44,9 @@ returns-in-len1-up t c =
     let page = c.args.page.now in
     let one = c.put_field-mid.ensures.value in
     let two = c.put_fields.ensures.value in
-    let fits : at + length (line_of l) ≤ length page = omega arith in record { value = omega arith; page_after = put_three at c.put_field-mid.result 59 (field_of c.first-item.result) _ page c.put_field-mid.new.page c.put_fields.new.page
+    let fits : at + length (line_of l) ≤ length page = omega arith in record {
+      value = omega arith;
+      page_after = put_three at c.put_field-mid.result 59 (field_of c.first-item.result) _ page c.put_field-mid.new.page c.put_fields.new.page
           one (rw e at fits) c.put_field-mid.ensures.page_after c.put_fields.ensures.page_after
-          ∙ ap (λ (bs : List ℕ). put at bs page) (sym e) }
+          ∙ ap (λ (bs : List ℕ). put at bs page) (sym e);
+    }

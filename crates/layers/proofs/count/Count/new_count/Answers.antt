@@ -1,4 +1,4 @@
-use Rattle.std.proofs.Common.{◌≡◌, ℕ, ◌+◌, ◌<◌, ◌≤◌, min, List, get_or, sym, refl, ◌∙◌, ap₂, arith}
+use Rattle.std.proofs.Common.{ℕ, ◌+◌, min, List, refl, ◌∙◌, ap₂, arith}
 use Rattle.site.specs.Sites.{model}
 use Rattle.site.proofs.Whole.{proper}
 use Rattle.rounds.specs.Forest.{sum_over}

@@ -1,4 +1,4 @@
-use Rattle.std.proofs.Common.{◌≡◌, ℕ, ◌-◌, ◌<◌, ◌≤◌, List, ◌++◌, take, sym, refl, ap, ◌∙◌, arith}
+use Rattle.std.proofs.Common.{◌≡◌, ℕ, ◌-◌, ◌<◌, ◌≤◌, List, ◌++◌, take, refl, ap, ◌∙◌, arith}
 use Rattle.site.specs.Sites.{model}
 use Rattle.site.proofs.Whole.{proper}
 use Rattle.protocol.specs.Protocols.{told_size}

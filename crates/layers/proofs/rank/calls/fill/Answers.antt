@@ -1,6 +1,5 @@
 use Rattle.std.proofs.Common.{◌≡◌, ℕ, ◌+◌, List, get_or, drop, ◌∙◌, subst, ap₂, arith}
 use Rattle.graph.specs.Model.{ports}
-use Rattle.graph.proofs.Drawn.{ports_few}
 use Rattle.site.specs.Sites.{model}
 use Rattle.site.proofs.Whole.{proper}
 use Rattle.protocol.specs.Rank.{put, slots}

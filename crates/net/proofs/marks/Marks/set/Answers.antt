@@ -1,4 +1,4 @@
-use Rattle.std.proofs.Common.{◌≡◌, ◌/◌, ◌%◌, ◌<◌, length, refl, ap, ◌∙◌, arith}
+use Rattle.std.proofs.Common.{◌%◌, arith}
 use Rattle.net.proofs.BitLaws.{add_bit, shifted}
 use Rattle.net.proofs.marks.Marks.set.Goals as goal
 

@@ -1,4 +1,4 @@
-use Rattle.std.proofs.Common.{◌≡◌, ℕ, ◌+◌, ◌^◌, ◌<◌, ◌≤◌, List, get_or, refl, ap, ◌∙◌, arith, w64, Fits}
+use Rattle.std.proofs.Common.{ℕ, ◌^◌, ◌<◌, ◌≤◌, List, get_or, arith, w64, Fits}
 use lib.Count.{ones, ones-le}
 use Rattle.net.proofs.BitLaws.{four, at_word}
 use Rattle.net.proofs.marks.calls.set_bits.Goals as goal

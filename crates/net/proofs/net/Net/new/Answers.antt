@@ -1,4 +1,4 @@
-use Rattle.std.proofs.Common.{◌≡◌, refl, arith}
+use Rattle.std.proofs.Common.{refl, arith}
 use Rattle.site.proofs.Whole.{proper}
 use Rattle.promise.proofs.PromiseLaws.{promise}
 use Rattle.promise.proofs.FirmLaws.{firm}

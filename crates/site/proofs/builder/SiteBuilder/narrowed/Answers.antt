@@ -1,11 +1,10 @@
-use Rattle.std.proofs.Common.{◌≡◌, ℕ, ◌+◌, ◌-◌, ◌<◌, ◌≤◌, List, [], ◌∷◌, map, length, get_or, vec_items, vec_len, sym, refl, ap, ◌∙◌, subst, arith}
-use Rattle.graph.specs.Model.{Drawn, Model, ports_of}
+use Rattle.std.proofs.Common.{◌≡◌, ℕ, ◌+◌, ◌-◌, ◌<◌, ◌≤◌, List, [], ◌∷◌, map, length, vec_items, vec_len, sym, refl, ap, ◌∙◌, subst, arith}
+use Rattle.graph.specs.Model.{Drawn}
 use Rattle.graph.proofs.Deciding.{drawn_from}
 use Rattle.graph.proofs.Growth.{drawn_none}
 use Rattle.site.specs.declared.link.Link.{Link}
 use Rattle.site.specs.declared.node.Node.{Node}
 use Rattle.site.specs.declared.builder.SiteBuilder.{SiteBuilder}
-use Rattle.site.specs.Entering.{bare}
 use Rattle.site.specs.Kept.{Unvisited}
 use Rattle.site.specs.Sites.{draft}
 use Rattle.site.specs.Table.{Roomy, Table, ends, entry, neighbours, site_of}
