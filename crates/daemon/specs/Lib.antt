@@ -5,3 +5,4 @@ pub mod Scripts
 pub mod Orders
 pub mod Waits
 pub mod ScriptSound
+pub mod RobinSound

@@ -18,6 +18,9 @@ module _ (m : Model) (ok : Proper m) where
       let c = ok.drawn.limit in
       omega arith
 
+  pub nodes_room : m.nodes ≤ 2304
+  nodes_room = let a = room in omega arith
+
   pub before_few : (v : ℕ) → arcs_before m v ≤ arcs m
   before_few v = elim (cases_lt v m.nodes) [ inl l ↦ arcs_mono m v m.nodes (omega arith) | inr l ↦ (let e = arcs_past m ok.drawn v l in omega arith) ]
 

@@ -1,11 +1,11 @@
 -- Lists of registers of 16 bits.
 use Rattle.std.specs.Prelude.{ℕ, zero, suc, ◌<◌, List, replicate}
 use Rattle.std.proofs.Common.{lit<}
-use Rattle.std.specs.List.{AllByRecursion as All}
+use Rattle.std.specs.List.{AllByRecursion}
 use Rattle.std.proofs.ByRecursion.{All-from_get_or}
 use Rattle.layers.specs.Width.{Narrow}
 
-pub narrow_all : (xs : List ℕ) → Narrow xs → All (λ x. x < 65536) xs
+pub narrow_all : (xs : List ℕ) → Narrow xs → AllByRecursion (λ x. x < 65536) xs
 narrow_all xs h = All-from_get_or (λ x. x < 65536) xs 0 (λ i l. h i)
 
 pub narrow_replicate : (n x : ℕ) → x < 65536 → Narrow (replicate n x)

@@ -1,6 +1,6 @@
 -- What a net keeps over a run: its counters are right for the turns since the latest fault.
 use Rattle.std.proofs.Common.{◌≡◌, ℕ, zero, suc, ◌+◌, ◌<◌, ◌≤◌, Bool, true, false, cond, List, [], ◌∷◌, ◌++◌, length, set, Ok, Err, sym, refl, ap, ◌∙◌, subst, inl, inr, arith, length-append, length-set}
-use Rattle.std.specs.List.{AllByRecursion as All}
+use Rattle.std.specs.List.{AllByRecursion}
 use Rattle.std.proofs.lemmas.Bool.{cases_eq, cases_lt}
 use Rattle.lists.proofs.Elements.{among_push_cases}
 use Rattle.graph.specs.Model.{Model}
@@ -54,7 +54,7 @@ ran p regs (faulted i x ∷ h) = refl
 ran p regs (held ∷ h) = ran p regs h
 ran p regs (released ∷ h) = ran p regs h
 
-all_set : (xs : List ℕ) (i x : ℕ) → x < 65536 → All (λ y. y < 65536) xs → All (λ y. y < 65536) (set xs i x)
+all_set : (xs : List ℕ) (i x : ℕ) → x < 65536 → AllByRecursion (λ y. y < 65536) xs → AllByRecursion (λ y. y < 65536) (set xs i x)
 all_set [] i x l h = h
 all_set (y ∷ xs) zero x l h = (l, h.1)
 all_set (y ∷ xs) (suc i) x l h = (h.0, all_set xs i x l h.1)

@@ -1,6 +1,6 @@
 -- Registers in blocks: where a node's stand, and what writing them leaves.
 use Rattle.std.proofs.Common.{◌≡◌, ℕ, zero, suc, ◌<◌, List, length, get_or, sym, refl, ap, ◌∙◌, subst, inl, inr, arith, length-set}
-use Rattle.std.specs.List.{AllByRecursion as All}
+use Rattle.std.specs.List.{AllByRecursion}
 use Rattle.std.proofs.lemmas.List.{get_or-set_same, get_or-set_other}
 use Rattle.std.proofs.ByRecursion.{All-set}
 use Rattle.std.proofs.lemmas.Bool.{cases_eq}
@@ -39,6 +39,6 @@ module _ (n v : ℕ) (f : ℕ → ℕ) where
   pub write_registers : (k size : ℕ) (xs : List ℕ) → ((i : ℕ) → i < k → f i < 65536) → Registers size xs → Registers size (write n k v f xs)
   write_registers k size xs small r = (write_length k xs ∙ r.0, all_write k small)
     where
-      all_write : (k : ℕ) → ((i : ℕ) → i < k → f i < 65536) → All (λ x. x < 65536) (write n k v f xs)
+      all_write : (k : ℕ) → ((i : ℕ) → i < k → f i < 65536) → AllByRecursion (λ x. x < 65536) (write n k v f xs)
       all_write zero small = r.1
       all_write (suc k) small = All-set (λ x. x < 65536) (write n k v f xs) (block n k v) (f k) (small k (omega arith)) (all_write k (λ i l. small i (omega arith)))

@@ -1,6 +1,6 @@
 -- Slots of ports: where each stands, what is put there, and what writing them leaves.
 use Rattle.std.proofs.Common.{◌≡◌, ℕ, zero, suc, ◌+◌, ◌<◌, ◌≤◌, min, cond, eqb, ◌⊎◌, List, [], ◌∷◌, length, get_or, take, set, sym, refl, ap, ◌∙◌, subst, inl, inr, arith, length-set}
-use Rattle.std.specs.List.{AllByRecursion as All}
+use Rattle.std.specs.List.{AllByRecursion}
 use Rattle.std.proofs.lemmas.List.{get_or-set_same, get_or-set_other}
 use Rattle.std.proofs.ByRecursion.{All-set}
 use Rattle.std.proofs.lemmas.Bool.{cases_eq, cond-true, eq-eqb}
@@ -35,7 +35,7 @@ module _ (n : ℕ) (t : ℕ → Output) (w : ℕ) where
       let a = slots_length xs (r + (t x).count) in let b = slots_length xs r in
       elim (eqb_tells (parents t x) (suc w)) [ inl e ↦ rw e.0 (ap suc a) | inr e ↦ rw e.0 (ap suc b) ]
 
-  pub slots_small : n ≤ 256 → (xs : List ℕ) (r : ℕ) → All (λ x. x < 65536) (slots n t w r xs)
+  pub slots_small : n ≤ 256 → (xs : List ℕ) (r : ℕ) → AllByRecursion (λ x. x < 65536) (slots n t w r xs)
   slots_small few [] r = tt
   slots_small few (x ∷ xs) r =
       let a = slots_small few xs (r + (t x).count) in let b = slots_small few xs r in
@@ -62,7 +62,7 @@ pub put_length : (ys xs : List ℕ) (i : ℕ) → length (put xs i ys) ≡ lengt
 put_length [] xs i = refl
 put_length (y ∷ ys) xs i = put_length ys (set xs i y) (suc i) ∙ length-set xs i y
 
-pub put_all : (ys xs : List ℕ) (i : ℕ) → All (λ x. x < 65536) ys → All (λ x. x < 65536) xs → All (λ x. x < 65536) (put xs i ys)
+pub put_all : (ys xs : List ℕ) (i : ℕ) → AllByRecursion (λ x. x < 65536) ys → AllByRecursion (λ x. x < 65536) xs → AllByRecursion (λ x. x < 65536) (put xs i ys)
 put_all [] xs i a b = b
 put_all (y ∷ ys) xs i a b = put_all ys (set xs i y) (suc i) a.1 (All-set (λ x. x < 65536) xs i y a.0 b)
 

@@ -1,6 +1,6 @@
 -- The meaning of a silent protocol at a site, and the laws that it owes.
 use Rattle.std.specs.Prelude.{◌≡◌, ℕ, ◌<◌, min, List, length, Some}
-use Rattle.std.specs.List.{AllByRecursion as All}
+use Rattle.std.specs.List.{AllByRecursion}
 use Rattle.lists.specs.Members.{Among}
 use Rattle.graph.specs.Model.{Model, ports}
 use Rattle.rounds.specs.Rounds.{Completes}
@@ -21,7 +21,7 @@ pub record Protocol : Type 1 where
 
 -- so many registers, each of 16 bits
 abbrev pub Registers : ℕ → List ℕ → Type 0
-Registers size xs = (length xs ≡ size) × All (λ x. x < 65536) xs
+Registers size xs = (length xs ≡ size) × AllByRecursion (λ x. x < 65536) xs
 
 -- the laws of a protocol at a site
 pub record Laws (m : Model) (p : Protocol) : Type 0 where

@@ -1,6 +1,6 @@
 -- The daemon of a sheet: it is made, it gives every node its turns in time, and it names the nodes in order.
 use Rattle.std.proofs.Common.{◌≡◌, ℕ, ◌+◌, ◌%◌, ◌<◌, ◌≤◌, List, [], ◌∷◌, length, get_or, Ok, Err, sym, refl, ap, ◌∙◌, inl, inr, ⊎_elim, arith}
-use Rattle.std.specs.List.{AllByRecursion as All}
+use Rattle.std.specs.List.{AllByRecursion}
 use Rattle.std.proofs.lemmas.Nat.{mul-le}
 use Rattle.std.proofs.lemmas.Bool.{cases_lt}
 use Rattle.refusal.specs.declared.Refusal.{Refusal}
@@ -74,6 +74,6 @@ script_ordered n names vs d y some made asked = λ k l.
     ∙ sym (named_script n names k some)
 
 -- the nodes of a script's lines have 16 bits
-pub few_names : (n : ℕ) (ts : List TurnLine) → ((v : ℕ) → Among v (names_of ts) → v < n) → n ≤ 256 → All (λ t. t.node.value ≤ 65535) ts
+pub few_names : (n : ℕ) (ts : List TurnLine) → ((v : ℕ) → Among v (names_of ts) → v < n) → n ≤ 256 → AllByRecursion (λ t. t.node.value ≤ 65535) ts
 few_names n [] h l = tt
 few_names n (t ∷ ts) h l = ((let b = h t.node.value (inl refl) in omega arith), few_names n ts (λ v m. h v (inr m)) l)

@@ -1,6 +1,6 @@
 -- Faults entered one after the other.
 use Rattle.std.proofs.Common.{◌≡◌, ℕ, zero, suc, ◌+◌, ◌<◌, List, [], ◌∷◌, ◌++◌, length, get_or, take, set, Ok, Err, sym, refl, ap, ◌∙◌, subst, ⊎_elim, arith}
-use Rattle.std.specs.List.{AllByRecursion as All}
+use Rattle.std.specs.List.{AllByRecursion}
 use Rattle.std.proofs.lemmas.List.{take_more, take_more_set, map-append}
 use Rattle.refusal.specs.declared.Refusal.{Refusal}
 use Rattle.text.specs.declared.records.FaultLine.{FaultLine}
@@ -18,7 +18,7 @@ faulted_more [] f xs = refl
 faulted_more (e ∷ fs) f xs = faulted_more fs f (set xs e.register.value e.value.value)
 
 -- an item of a list has what all have
-pub all_item : {X : Type 0} (P : X → Type 0) (xs : List X) (i : ℕ) (x : X) → All P xs → i < length xs → x ≡ get_or xs i x → P x
+pub all_item : {X : Type 0} (P : X → Type 0) (xs : List X) (i : ℕ) (x : X) → AllByRecursion P xs → i < length xs → x ≡ get_or xs i x → P x
 all_item P [] i x h l e = absurd (omega arith)
 all_item P (y ∷ xs) zero x h l e = subst P (sym e) h.0
 all_item P (y ∷ xs) (suc i) x h l e = all_item P xs i x h.1 (omega arith) e

@@ -1,6 +1,6 @@
 //! Runs of a net that a sheet asks for.
 ghost use Rattle.std.specs.Prelude.{◌≡◌, ◌≤◌, length, vec_len};
-ghost use Rattle.std.specs.List.{AllByRecursion as All};
+ghost use Rattle.std.specs.List.{AllByRecursion};
 ghost use Rattle.protocol.specs.Protocols.{told_bound, told_size};
 ghost use Rattle.promise.specs.Nets.{Fresh};
 ghost use Rattle.net.specs.Calls.{at, meant, state};
@@ -16,7 +16,7 @@ use text::records::{FaultLine, TurnLine};
 
 // Enters faults, in their order.
 pub(crate) fn enter<P: Silent>(net: &mut Net<P>, faults: &[FaultLine])
-    requires { All (Fit (told_size (meant P.Silent net.old))) faults.now }
+    requires { AllByRecursion (Fit (told_size (meant P.Silent net.old))) faults.now }
     ensures { Entered P.Silent net.old faults.now net.new }
 {
     for fault in faults {
@@ -30,7 +30,7 @@ pub(crate) fn enter<P: Silent>(net: &mut Net<P>, faults: &[FaultLine])
 // The nodes of turn lines, in memory that has room for them.
 fn nodes_of(turns: &[TurnLine], names: Vec<u16>) -> Vec<u16>
     requires room { length turns.now ≤ vec_len names }
-    requires few { All (λ t. t.node.value ≤ 65535) turns.now }
+    requires few { AllByRecursion (λ t. t.node.value ≤ 65535) turns.now }
     ensures { result.items ≡ names_of turns.now }
 {
     let mut names = names;

@@ -4,11 +4,7 @@ ghost use Rattle.text.specs.Lines.{contents_bytes};
 ghost use Rattle.text.specs.Number.{zero_number};
 ghost use Rattle.text.specs.Words.{letters};
 ghost use Rattle.text.specs.declared.contents.Word.TheVariants.{Nodes};
-ghost use Rattle.text.specs.LineKinds.{contents_plain, same_contents};
-ghost use Rattle.std.proofs.Common.{arith};
-ghost use Rattle.text.specs.declared.field.Keyword.TheVariants.{Contents};
-ghost use Rattle.text.specs.Fields.{headed};
-ghost use Rattle.text.specs.FieldsLemmas.{line_short};
+ghost use Rattle.text.specs.LineKinds.{contents_plain, contents_short, same_contents};
 
 use crate::field::{Keyword, fields_size, headed_fields, split, write_fields};
 use crate::line::{ReadLine, WriteLine};
@@ -58,9 +54,9 @@ fn find_word(name: &[u8]) -> Option<Word>
 impl WriteLine for ContentsLine {
     ghost bytes = { contents_bytes };
 
-    ghost plain = { λ x. contents_plain x };
+    ghost plain = { contents_plain };
 
-    ghost short = { λ x. let h = line_short (headed (Contents x.word) x.number) in omega arith };
+    ghost short = { contents_short };
 
     fn size(&self) -> usize {
         fields_size(&headed_fields(Keyword::Contents(self.word), self.number))

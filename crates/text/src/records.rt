@@ -2,11 +2,7 @@
 ghost use Rattle.text.specs.Fields.{PairRead, pair};
 ghost use Rattle.text.specs.Lines.{fault_bytes, link_bytes, turn_bytes};
 ghost use Rattle.text.specs.Number.{zero_number};
-ghost use Rattle.text.specs.LineKinds.{link_plain, fault_plain, turn_plain, same_link, same_fault, same_turn};
-ghost use Rattle.std.proofs.Common.{arith};
-ghost use Rattle.text.specs.FieldsLemmas.{line_short};
-ghost use Rattle.std.specs.Prelude.{[], ◌∷◌};
-ghost use Rattle.text.specs.declared.field.Field.TheVariants.{Value};
+ghost use Rattle.text.specs.LineKinds.{fault_plain, fault_short, link_plain, link_short, same_fault, same_link, same_turn, turn_plain, turn_short};
 
 use crate::field::{Field, fields_size, pair_fields, split, write_fields};
 use crate::line::{ReadLine, WriteLine};
@@ -56,9 +52,9 @@ fn read_pair(line: &[u8]) -> Option<(Number, Number)>
 impl WriteLine for LinkLine {
     ghost bytes = { link_bytes };
 
-    ghost plain = { λ x. link_plain x };
+    ghost plain = { link_plain };
 
-    ghost short = { λ x. let h = line_short (pair x.a x.b) in omega arith };
+    ghost short = { link_short };
 
     fn size(&self) -> usize {
         fields_size(&pair_fields(self.a, self.b))
@@ -72,9 +68,9 @@ impl WriteLine for LinkLine {
 impl WriteLine for FaultLine {
     ghost bytes = { fault_bytes };
 
-    ghost plain = { λ x. fault_plain x };
+    ghost plain = { fault_plain };
 
-    ghost short = { λ x. let h = line_short (pair x.register x.value) in omega arith };
+    ghost short = { fault_short };
 
     fn size(&self) -> usize {
         fields_size(&pair_fields(self.register, self.value))
@@ -88,9 +84,9 @@ impl WriteLine for FaultLine {
 impl WriteLine for TurnLine {
     ghost bytes = { turn_bytes };
 
-    ghost plain = { λ x. turn_plain x };
+    ghost plain = { turn_plain };
 
-    ghost short = { λ x. let h = line_short (Value x.node ∷ []) in omega arith };
+    ghost short = { turn_short };
 
     fn size(&self) -> usize {
         fields_size(&[Field::Value(self.node)])

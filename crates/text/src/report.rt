@@ -1,13 +1,7 @@
 //! The lines of a report, which are only written.
 ghost use Rattle.std.specs.Prelude.{◌≡◌, ◌∷◌};
 ghost use Rattle.text.specs.Lines.{node_bytes, node_fields, refused_bytes, report_bytes, tally_bytes};
-ghost use Rattle.text.specs.declared.field.Keyword.TheVariants as Thevariants;
-ghost use Rattle.text.specs.Fields.{headed, pair};
-ghost use Rattle.text.specs.FieldsLemmas.{line_plain, line_short};
-ghost use Rattle.text.specs.LineKinds.{report_plain, report_short};
-ghost use Rattle.std.proofs.Common.{arith};
-ghost use Rattle.text.specs.declared.field.Field.TheVariants.{Word};
-ghost use Rattle.text.specs.declared.field.Keyword.TheVariants.{Refused};
+ghost use Rattle.text.specs.LineKinds.{node_plain, node_short, refused_plain, refused_short, report_plain, report_short, tally_plain, tally_short};
 
 use crate::field::{Field, Keyword, fields_size, headed_fields, optional_field, write_fields};
 use crate::line::WriteLine;
@@ -71,9 +65,9 @@ pub enum ReportLine {
 impl WriteLine for Tally {
     ghost bytes = { tally_bytes };
 
-    ghost plain = { λ x. line_plain (headed (Thevariants.Tally x.word) x.number) };
+    ghost plain = { tally_plain };
 
-    ghost short = { λ x. let h = line_short (headed (Thevariants.Tally x.word) x.number) in omega arith };
+    ghost short = { tally_short };
 
     fn size(&self) -> usize {
         fields_size(&headed_fields(Keyword::Tally(self.word), self.number))
@@ -91,9 +85,9 @@ impl WriteLine for Tally {
 impl WriteLine for RefusedLine {
     ghost bytes = { refused_bytes };
 
-    ghost plain = { λ x. line_plain (Word Refused ∷ pair x.number x.line) };
+    ghost plain = { refused_plain };
 
-    ghost short = { λ x. let h = line_short (Word Refused ∷ pair x.number x.line) in omega arith };
+    ghost short = { refused_short };
 
     fn size(&self) -> usize {
         fields_size(&[
@@ -134,9 +128,9 @@ impl NodeLine {
 impl WriteLine for NodeLine {
     ghost bytes = { node_bytes };
 
-    ghost plain = { λ x. line_plain (node_fields x) };
+    ghost plain = { node_plain };
 
-    ghost short = { λ x. let h = line_short (node_fields x) in omega arith };
+    ghost short = { node_short };
 
     fn size(&self) -> usize {
         fields_size(&self.fields())

@@ -2,7 +2,7 @@
 ghost use Rattle.std.specs.Prelude.{◌≡◌};
 ghost use Rattle.daemon.specs.Dues.{Asked};
 ghost use Rattle.daemon.specs.RoundRobins.{RobinAsked, RobinMade, robin_dues};
-ghost use Rattle.std.proofs.Common.{rules, arith};
+ghost use Rattle.daemon.specs.RobinSound.{robin_timely};
 
 use super::RoundRobin;
 use crate::Daemon;
@@ -27,7 +27,7 @@ impl Daemon for RoundRobin {
 
     ghost Asks = { RobinAsked };
 
-    ghost timely = { first_of (Prim.search rules, Prim.grind (arith, Self.row.coded.inj)) };
+    ghost timely = { robin_timely };
 
     fn nodes(&self) -> usize {
         self.nodes

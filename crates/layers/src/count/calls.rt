@@ -8,7 +8,7 @@ ghost use Rattle.protocol.specs.Layers.{children};
 ghost use Rattle.protocol.specs.Outputs.{stored};
 ghost use Rattle.layers.specs.Below.{all_registers, told};
 ghost use Rattle.layers.specs.Owns.{register, front};
-ghost use Rattle.std.proofs.Common.{arith};
+ghost use Rattle.layers.specs.Sites.{nodes_room};
 ghost use Rattle.layers.specs.Fronts.{both_registers, front_registers};
 ghost use Rattle.protocol.proofs.CountLaws.{count_laws};
 
@@ -74,8 +74,7 @@ impl<P: Silent> Silent for Count<P> {
     ghost registers = { λ s m. all_registers P.Silent s.layer m m.nodes };
 
     ghost sized = { λ s m ok.
-        let l = ok.drawn.limit in
-        both_registers _ m.nodes (P.Silent.registers s.layer.below m) (front m.nodes s.layer.own) (P.Silent.sized s.layer.below m ok) (front_registers m.nodes (omega arith) s.layer.own) };
+        both_registers _ m.nodes (P.Silent.registers s.layer.below m) (front m.nodes s.layer.own) (P.Silent.sized s.layer.below m ok) (front_registers m.nodes (nodes_room m ok) s.layer.own) };
 
     ghost laws = { λ p m ok. count_laws m _ ok (P.Silent.laws p m ok) };
 
