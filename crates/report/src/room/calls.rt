@@ -1,6 +1,7 @@
 //! Making room for an answer.
 ghost use Rattle.std.specs.Prelude.{IfOk};
 ghost use Rattle.report.specs.Stacks.{Blank};
+ghost use Rattle.site.specs.Entering.{OnlyMemory};
 
 use super::{Room, Stack};
 use bases::matching::Matching;
@@ -8,6 +9,7 @@ use bases::tree::Tree;
 use layers::beside::Beside;
 use layers::count::Count;
 use layers::rank::Rank;
+use site::fault::BuildFault;
 use site::room::SiteRoom;
 use std::alloc::{AllocError, Global};
 
@@ -24,13 +26,11 @@ fn stack(heap: Global) -> Result<Stack, AllocError>
 
 impl Room {
     /// Room for an answer; want of memory is the only error.
-    pub fn new(heap: Global) -> Result<Room, AllocError>
-        ensures { IfOk result (λ room. Blank room.stack) }
+    pub fn new(heap: Global) -> Result<Room, BuildFault>
+        ensures blank { IfOk result (λ room. Blank room.stack) }
+        ensures memory { OnlyMemory result }
     {
-        let site = match SiteRoom::new(heap) {
-            Ok(site) => site,
-            Err(_) => return Err(AllocError),
-        };
+        let site = SiteRoom::new(heap)?;
         let stack = stack(heap)?;
         let names = vec![in heap; 0u16; 1024]?;
         Ok(Room { site, stack, names })
