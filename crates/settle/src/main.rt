@@ -47,3 +47,17 @@ fn main(rt: HostRuntime) -> io::Result<()> {
     let page = respond(heap, &bytes)?;
     rt.stdout().write_all(&page)
 }
+
+#[cfg(test)]
+mod tests {
+    use report::room::Room;
+    use std::test::*;
+
+    // Memory for an answer is had.
+    #[test]
+    fn room_made(rt: HostRuntime) -> Result<(), Fail> {
+        let room = Room::new(rt.alloc());
+        assert!(rt; room.is_ok());
+        Ok(())
+    }
+}

@@ -22,6 +22,15 @@ use std::alloc::{AllocError, Global};
 
 type Stack = Beside<Rank<Count<Tree>>, Matching>;
 
+// The links of the site of five nodes.
+const LINKS: [Link; 5] = [
+    Link { a: 0, b: 1 },
+    Link { a: 0, b: 2 },
+    Link { a: 1, b: 3 },
+    Link { a: 2, b: 3 },
+    Link { a: 3, b: 4 },
+];
+
 // The program's stack of protocols, with all registers 0.
 fn stack(heap: Global) -> Result<Stack, AllocError> {
     let tree = Tree::new(heap)?;
@@ -85,15 +94,148 @@ fn run(rt: &HostRuntime, site: &Site) -> anyhow::Result<()> {
 }
 
 fn main(rt: HostRuntime) -> anyhow::Result<()> {
-    let links = [
-        Link { a: 0, b: 1 },
-        Link { a: 0, b: 2 },
-        Link { a: 1, b: 3 },
-        Link { a: 2, b: 3 },
-        Link { a: 3, b: 4 },
-    ];
-    match build(rt.alloc(), 5, 0, &links) {
+    match build(rt.alloc(), 5, 0, &LINKS) {
         Ok(site) => run(&rt, &site),
         Err(_) => Err(anyhow!("no site")),
+    }
+}
+
+#[cfg(test)]
+mod tests {
+    use super::*;
+    use daemon::script::Script;
+    use std::process::Abort;
+    use std::test::*;
+
+    // What a node tells.
+    #[derive(Clone, Copy, PartialEq, Debug)]
+    struct Row {
+        parent: Option<u16>,
+        count: u16,
+        rank: u16,
+        mate: Option<u16>,
+    }
+
+    // What the nodes tell at rest, worked out by hand: the tree, its branches, the tour, and the pairs that a round robin leaves.
+    const ROWS: [Row; 5] = [
+        Row {
+            parent: None,
+            count: 5,
+            rank: 0,
+            mate: Some(1),
+        },
+        Row {
+            parent: Some(0),
+            count: 3,
+            rank: 1,
+            mate: Some(0),
+        },
+        Row {
+            parent: Some(0),
+            count: 1,
+            rank: 4,
+            mate: Some(3),
+        },
+        Row {
+            parent: Some(1),
+            count: 2,
+            rank: 2,
+            mate: Some(2),
+        },
+        Row {
+            parent: Some(3),
+            count: 1,
+            rank: 3,
+            mate: None,
+        },
+    ];
+
+    // What a net came to.
+    #[derive(Clone, Copy)]
+    struct Seen {
+        settled: bool,
+        turns: u32,
+        rounds: u32,
+        awaited: usize,
+        last_change: u32,
+        rows: [Option<Row>; 5],
+    }
+
+    // What a node of the net tells.
+    fn told_at<P: Silent>(net: &Net<P>, v: usize) -> Option<Row> {
+        match net.output(v) {
+            Ok(told) => Some(Row {
+                parent: told.parent,
+                count: told.count,
+                rank: told.rank,
+                mate: told.mate,
+            }),
+            Err(_) => None,
+        }
+    }
+
+    // What a net of the stack comes to under a daemon.
+    fn settled<D: Daemon>(stack: Stack, site: &Site, daemon: &mut D) -> Seen {
+        let mut net = Net::new(site, stack, 7);
+        let settled = net.settle(daemon).is_ok();
+        let seen = Seen {
+            settled,
+            turns: net.turns(),
+            rounds: net.rounds(),
+            awaited: net.awaited(),
+            last_change: net.last_change(),
+            rows: [
+                told_at(&net, 0),
+                told_at(&net, 1),
+                told_at(&net, 2),
+                told_at(&net, 3),
+                told_at(&net, 4),
+            ],
+        };
+        let _ = net.into_protocol();
+        seen
+    }
+
+    // It settled in as many rounds as the bound, and the tree, the counts and the numbers are those of the rows.
+    fn rests(rt: &impl Abort, seen: Seen) -> Result<(), Fail> {
+        assert!(rt; seen.settled);
+        assert_eq!(rt; seen.rounds, 12);
+        assert_eq!(rt; seen.awaited, 5);
+        for (v, row) in ROWS.iter().enumerate() {
+            let mate = match seen.rows[v] {
+                Some(told) => told.mate,
+                None => None,
+            };
+            assert_eq!(rt; seen.rows[v], Some(Row { mate, ..*row }), "node {v}");
+        }
+        Ok(())
+    }
+
+    #[test]
+    fn settles_in_turn(rt: HostRuntime) -> Result<(), Fail> {
+        let site = build(rt.alloc(), 5, 0, &LINKS)?;
+        let mut robin = RoundRobin::new(5)?;
+        let seen = settled(stack(rt.alloc())?, &site, &mut robin);
+        rests(&rt, seen)?;
+        assert_eq!(rt; seen.turns, 60);
+        assert_eq!(rt; seen.last_change, 5);
+        for (v, row) in ROWS.iter().enumerate() {
+            assert_eq!(rt; seen.rows[v], Some(*row), "node {v}");
+        }
+        Ok(())
+    }
+
+    #[test]
+    fn settles_by_script(rt: HostRuntime) -> Result<(), Fail> {
+        let site = build(rt.alloc(), 5, 0, &LINKS)?;
+        let mut names = Vec::new(rt.alloc());
+        for v in [4, 4, 3, 2, 1, 0] {
+            names.push(v)?;
+        }
+        let mut script = Script::owned(5, names)?;
+        let seen = settled(stack(rt.alloc())?, &site, &mut script);
+        rests(&rt, seen)?;
+        assert_eq!(rt; seen.turns, 72);
+        Ok(())
     }
 }
