@@ -36,10 +36,10 @@ ScriptMade n names (Ok s) = Free (script_checks n names) × (s.nodes ≡ n) × (
 ScriptMade n names (Err (Refused e)) = First (script_checks n names) e
 ScriptMade n names (Err Memory) = Free (script_checks n names)
 
--- a script of names that were handed over was made, to begin with the first, or declined
+-- names that were handed over make the same script, or are declined alike; no memory is wanted
 abbrev pub ScriptOwned : ℕ → List ℕ → Result Script Refusal → Type 0
-ScriptOwned n names (Ok s) = Free (script_checks n names) × (s.nodes ≡ n) × (names_of s ≡ names) × (s.at ≡ 0)
-ScriptOwned n names (Err e) = First (script_checks n names) e
+ScriptOwned n names (Ok s) = ScriptMade n names (Ok s)
+ScriptOwned n names (Err e) = ScriptMade n names (Err (Refused e))
 
 -- a script named what stands at its place, and the next place is one on, from the last to the first
 pub record ScriptAsked (a : Script) (v : ℕ) (z : Script) : Type 0 where
