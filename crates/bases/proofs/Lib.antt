@@ -1,3 +1,4 @@
+pub mod Sites
 pub mod Scans
 pub mod TreeCalls
 pub mod MatchingCalls

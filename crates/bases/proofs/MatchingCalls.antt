@@ -9,9 +9,10 @@ use Rattle.protocol.specs.Outputs.{stored}
 use Rattle.protocol.specs.Matching.{mate, matching, naming, new_register, or_else, renewed}
 use Rattle.protocol.proofs.FirstLaws.{first_cong, held_some, mem_tells}
 use Rattle.silent.specs.Answers.{Turned}
-use Rattle.bases.specs.declared.block.Block.{Block}
-use Rattle.bases.specs.Blocks.{held, register, front, Changed}
-use Rattle.bases.specs.Fronts.{front_read, front_set, front_changed}
+use Rattle.registers.specs.declared.Block.{Block}
+use Rattle.registers.specs.Blocks.{front, held, register}
+use Rattle.registers.specs.Fronts.{front_changed, front_read, front_set}
+use Rattle.registers.specs.Lists.{Changed}
 
 -- the rules read the names of nodes alone
 module _ (m : Model) (p : Proper m) (f g : ℕ → ℕ) (same : (u : ℕ) → u < m.nodes → f u ≡ g u) (v : ℕ) where
@@ -42,10 +43,9 @@ module _ (m : Model) (p : Proper m) (f g : ℕ → ℕ) (same : (u : ℕ) → u 
 
 -- the register of v is written, by what the names were
 pub matching_turned :
-    (m : Model) (p : Proper m) (a b : Block) (v x : ℕ) (r : Bool) → v < m.nodes → x ≡ new_register m (register a) v
-    → held b ≡ set (held a) v x → Changed (held a) r (held b) → Turned m (matching m) v (front a m) (Ok r) (front b m)
+    {room : ℕ} (m : Model) (p : Proper m) (a b : Block room) (v x : ℕ) (r : Bool) → v < m.nodes → x ≡ new_register m (register a) v
+    → held b ≡ set (held a) v x → Changed (held a) r (held b) → Turned m (matching m) v (front m.nodes a) (Ok r) (front m.nodes b)
 matching_turned m p a b v x r l e w h =
-    let f : ℕ → ℕ = λ u. get_or (front a m) u 0 in
-    let g : ℕ → ℕ = register a in
-    let changed = front_changed m p a b v x w r l h in
-    (l, front_set m p a b v x w ∙ ap (set (front a m) v) (e ∙ sym (register_same m p f g (front_read m p a) v l)), changed.0, changed.1)
+    let n = m.nodes in
+    let f : ℕ → ℕ = λ u. get_or (front n a) u 0 in
+    (l, front_set n a b v x w l ∙ ap (set (front n a) v) (e ∙ sym (register_same m p f (register a) (front_read n a) v l)), front_changed n a b v x w r l h)

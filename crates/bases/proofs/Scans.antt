@@ -1,50 +1,49 @@
--- Loops over a list of nodes: the first node that passes a test, and the least value.
-use Rattle.std.proofs.Common.{◌≡◌, ℕ, zero, suc, ◌+◌, ◌<◌, ◌≤◌, min, Bool, true, false, cond, List, [], ◌∷◌, ◌++◌, length, get_or, take, drop, sym, refl, ap, ◌∙◌, subst, inl, inr, arith}
-use Rattle.std.proofs.lemmas.List.{at_drop_all, at_drop_more, take_more}
-use Rattle.std.proofs.lemmas.Bool.{cond-true, cond-false}
+-- What is found in a list of nodes: whether one stands in it, the first that passes a test, and the least value.
+use Rattle.std.proofs.Common.{◌≡◌, ℕ, min, Bool, true, false, cond, eqb, ◌||◌, List, [], ◌∷◌, map, fold, Some, None, Option, sym, refl, ap, ◌∙◌, ap₂, inl, inr, arith}
+use Rattle.std.specs.List.{find, list_any, reduce}
+use Rattle.std.specs.Option.{MatchOption, unwrap_or}
+use Rattle.std.proofs.lemmas.List.Recursion.{same_from_clauses}
+use Rattle.std.proofs.lemmas.Map.Entries.{option_filter}
 use Rattle.lists.specs.Members.{Among}
-use Rattle.protocol.specs.First.{least}
+use Rattle.protocol.specs.First.{first, held, least, mem}
+use Rattle.protocol.specs.Matching.{or_else}
+use Rattle.protocol.specs.Outputs.{stored}
+use Rattle.protocol.proofs.FirstLaws.{eqb_same}
 
--- F asks the first node of a list, and then the others; before the node at i nothing was found
-module _ {X : Type 0} (F : List ℕ → X) (p : ℕ → Bool) (found : ℕ → X) (asks : (x : ℕ) (xs : List ℕ) → F (x ∷ xs) ≡ cond (p x) (found x) (F xs))
-    (ns : List ℕ) (i : ℕ) (inv : F (drop i ns) ≡ F ns) where
-  here : i < length ns → cond (p (get_or ns i 0)) (found (get_or ns i 0)) (F (drop (i + 1) ns)) ≡ F ns
-  here l = sym (asks (get_or ns i 0) (drop (i + 1) ns)) ∙ sym (at_drop_more F ns i 0 l) ∙ inv
+-- std's words for these
+pub mem_any : (u : ℕ) (xs : List ℕ) → mem u xs ≡ list_any (λ x. eqb x u) xs
+mem_any u [] = refl
+mem_any u (x ∷ xs) = or_is (eqb u x) (mem u xs) ∙ ap₂ ◌||◌ (eqb_same u x x u sym sym) (mem_any u xs)
+  where
+    or_is : (a b : Bool) → cond a true b ≡ (a || b)
+    or_is true b = refl
+    or_is false b = refl
 
-  pub scan_found : i < length ns → p (get_or ns i 0) ≡ true → found (get_or ns i 0) ≡ F ns
-  scan_found l t = sym (cond-true (p (get_or ns i 0)) (found (get_or ns i 0)) (F (drop (i + 1) ns)) t) ∙ here l
+pub held_filter : (xs : List ℕ) (x : ℕ) (o : Option ℕ) → x ≡ stored o → option_filter (λ u. mem u xs) o ≡ held xs x
+held_filter xs x None e = ap (held xs) (sym e)
+held_filter xs x (Some u) e = ap (held xs) (sym e)
 
-  pub scan_more : i < length ns → p (get_or ns i 0) ≡ false → F (drop (i + 1) ns) ≡ F ns
-  scan_more l t = sym (cond-false (p (get_or ns i 0)) (found (get_or ns i 0)) (F (drop (i + 1) ns)) t) ∙ here l
+pub find_first : (p : ℕ → Bool) (xs : List ℕ) → find p xs ≡ first p xs
+find_first p xs = same_from_clauses (find p) (first p) (λ (x : ℕ) (o : Option ℕ). cond (p x) (Some x) o) refl (λ x us. refl) (λ x us. refl) xs
 
-  pub scan_all : length ns ≤ i → F [] ≡ F ns
-  scan_all l = sym (at_drop_all F ns i l) ∙ inv
+fold_min : (a b : ℕ) (xs : List ℕ) → fold min (min a b) xs ≡ min a (fold min b xs)
+fold_min a b [] = refl
+fold_min a b (x ∷ xs) = let e : min (min a b) x ≡ min a (min b x) = omega arith in ap (λ (k : ℕ). fold min k xs) e ∙ fold_min a (min b x) xs
 
-least_push : (f : ℕ → ℕ) (x : ℕ) (xs : List ℕ) (y : ℕ) → least f ((x ∷ xs) ++ (y ∷ [])) ≡ min (least f (x ∷ xs)) (f y)
-least_push f x [] y = refl
-least_push f x (z ∷ zs) y = let h = least_push f z zs y in omega arith
+fold_least : (f : ℕ → ℕ) (x : ℕ) (xs : List ℕ) → fold min (f x) (map f xs) ≡ least f (x ∷ xs)
+fold_least f x [] = refl
+fold_least f x (y ∷ ys) = fold_min (f x) (f y) (map f ys) ∙ ap (min (f x)) (fold_least f y ys)
 
-least_one : (f : ℕ → ℕ) (xs : List ℕ) → 0 < length xs → f (get_or xs 0 0) ≡ least f (take 1 xs)
-least_one f [] l = absurd (omega arith)
-least_one f (x ∷ xs) l = refl
-
-least_more : (f : ℕ → ℕ) (xs : List ℕ) (i : ℕ) → i < length xs → 0 < i → least f (take (i + 1) xs) ≡ min (least f (take i xs)) (f (get_or xs i 0))
-least_more f [] i l k = absurd (omega arith)
-least_more f (x ∷ xs) zero l k = absurd (omega arith)
-least_more f (x ∷ xs) (suc i) l k = ap (least f) (take_more (x ∷ xs) (suc i) 0 l) ∙ least_push f x (take i xs) (get_or xs i 0)
-
--- the least so far is a, and the next element has x
-module _ (f : ℕ → ℕ) (xs : List ℕ) (i a x : ℕ) (l : i < length xs) (h : a ≡ least f (take i xs)) (e : x ≡ f (get_or xs i 0)) where
-  pub least_first : i ≡ 0 → x ≡ least f (take (i + 1) xs)
-  least_first z = e ∙ subst (λ k. f (get_or xs k 0) ≡ least f (take (k + 1) xs)) (sym z) (least_one f xs (omega arith))
-
-  pub least_lower : (i ≡ 0 → ⊥) → x < a → x ≡ least f (take (i + 1) xs)
-  least_lower z lt = let m = least_more f xs i l (omega arith) in omega arith
-
-  pub least_stays : (i ≡ 0 → ⊥) → a ≤ x → a ≡ least f (take (i + 1) xs)
-  least_stays z le = let m = least_more f xs i l (omega arith) in omega arith
+pub reduce_least : (f : ℕ → ℕ) (xs : List ℕ) → unwrap_or (reduce min (map f xs)) 0 ≡ least f xs
+reduce_least f [] = refl
+reduce_least f (x ∷ xs) = fold_least f x xs
 
 pub least_cong : (f g : ℕ → ℕ) (xs : List ℕ) → ((u : ℕ) → Among u xs → f u ≡ g u) → least f xs ≡ least g xs
 least_cong f g [] h = refl
 least_cong f g (x ∷ []) h = h x (inl refl)
 least_cong f g (x ∷ (y ∷ ys)) h = let a = h x (inl refl) in let b = least_cong f g (y ∷ ys) (λ u m. h u (inr m)) in omega arith
+
+-- the first of two, and the second where there is none
+pub else_is : (o d r : Option ℕ) (P : Type 0) → MatchOption o P (λ u. r ≡ Some u) → (P → r ≡ d) → r ≡ or_else o d
+else_is None d r P h e = e h
+else_is (Some u) d r P h e = h

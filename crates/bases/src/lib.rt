@@ -2,7 +2,6 @@
 
 #![tactic(auto)]
 
-pub mod block;
 pub mod matching;
 mod ports;
 pub mod tree;

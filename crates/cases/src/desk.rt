@@ -1,6 +1,7 @@
 //! What a sheet is read into, and what reading one came to, as numbers.
 use sheet::contents::Contents;
 use sheet::fault::SheetFault;
+use sheet::lent::Lists;
 use sheet::read::read_sheet;
 use site::room::SiteRoom;
 use site::site::Site;
@@ -10,21 +11,21 @@ use std::test::*;
 use text::number::Number;
 use text::records::{FaultLine, LinkLine, TurnLine};
 
-/// A refusal's number, or 0 for none, and its line.
+/// A refusal's number, and its line.
 #[derive(Clone, Copy, PartialEq, Eq, Debug)]
-pub struct Answer {
+pub struct Refused {
     pub number: u8,
     pub line: usize,
 }
 
-/// No refusal.
-pub const ACCEPTED: Answer = Answer { number: 0, line: 0 };
+/// What a sheet comes to: it is accepted, or refused.
+pub type Answer = Result<(), Refused>;
 
 /// A list or a page is too short.
-pub const NO_ROOM: Answer = Answer {
+pub const NO_ROOM: Answer = Err(Refused {
     number: 14,
     line: 0,
-};
+});
 
 /// Lists and a site's place for sheets.
 #[derive(Drop)]
@@ -38,10 +39,7 @@ pub struct Desk {
 
 /// A number of at most five digits; 0 for more.
 pub fn number(value: u32) -> Number {
-    match Number::new(value) {
-        Some(n) => n,
-        None => Number::zero(),
-    }
+    Number::new(value).unwrap_or(Number::zero())
 }
 
 /// A link line of these ends.
@@ -77,16 +75,18 @@ pub fn contents(numbers: [u32; 4]) -> Contents {
 }
 
 /// The numbers of a fault.
-pub fn refused(fault: SheetFault) -> Answer {
-    match fault {
-        SheetFault::Scan(e) => Answer {
-            number: 1,
-            line: e.line(),
-        },
-        SheetFault::Refused(e, line) => Answer {
-            number: e.number(),
-            line,
-        },
+impl From<SheetFault> for Refused {
+    fn from(fault: SheetFault) -> Refused {
+        match fault {
+            SheetFault::Scan(e) => Refused {
+                number: 1,
+                line: e.line(),
+            },
+            SheetFault::Refused(e, line) => Refused {
+                number: e.number(),
+                line,
+            },
+        }
     }
 }
 
@@ -107,66 +107,42 @@ impl Desk {
         Desk::sized(heap, 1024, 4096, 1024)
     }
 
-    /// What reading a sheet answers, and its contents; all 0 for a declined one.
-    pub fn read(&mut self, bytes: &[u8]) -> Result<(Answer, Contents), Fail> {
+    /// What reading a sheet answers: its contents, if it is accepted.
+    pub fn read(&mut self, bytes: &[u8]) -> Result<Result<Contents, Refused>, Fail> {
         let room = SiteRoom::new(self.heap)?;
-        match read_sheet(
-            bytes,
-            &mut self.links,
-            &mut self.faults,
-            &mut self.turns,
-            room,
-            &mut self.site,
-        ) {
-            Ok(ns) => Ok((ACCEPTED, ns)),
-            Err(e) => Ok((refused(e), contents([0; 4]))),
-        }
+        let lists = Lists {
+            links: &mut self.links,
+            faults: &mut self.faults,
+            turns: &mut self.turns,
+        };
+        Ok(read_sheet(bytes, lists, room, &mut self.site).map_err(Refused::from))
     }
 
     /// What reading a sheet answers, once it is seen that every entry past the read ones is 0.
     pub fn answer(&mut self, rt: &impl Abort, bytes: &[u8]) -> Result<Answer, Fail> {
-        let (answer, ns) = self.read(bytes)?;
-        assert!(rt; self.is_clear(ns.links.get(), ns.faults.get(), ns.turns.get()));
-        Ok(answer)
+        let read = self.read(bytes)?;
+        let ns = read.unwrap_or(contents([0; 4]));
+        assert!(rt; self.is_clear(ns));
+        Ok(read.map(|_| ()))
     }
 
-    /// Whether every entry from these places on is 0.
-    pub fn is_clear(&self, links: u32, faults: u32, turns: u32) -> bool {
-        for i in links as usize..self.links.len() {
-            if self.links[i].a.get() != 0 || self.links[i].b.get() != 0 {
-                return false;
-            }
-        }
-        for i in faults as usize..self.faults.len() {
-            if self.faults[i].register.get() != 0 || self.faults[i].value.get() != 0 {
-                return false;
-            }
-        }
-        for i in turns as usize..self.turns.len() {
-            if self.turns[i].node.get() != 0 {
-                return false;
-            }
-        }
-        true
+    /// Whether every entry past those that the contents count is 0.
+    pub fn is_clear(&self, ns: Contents) -> bool {
+        let mut links = self.links.iter().skip(ns.links.get() as usize);
+        let mut faults = self.faults.iter().skip(ns.faults.get() as usize);
+        let mut turns = self.turns.iter().skip(ns.turns.get() as usize);
+        links.all(|x| x.a.get() == 0 && x.b.get() == 0)
+            && faults.all(|x| x.register.get() == 0 && x.value.get() == 0)
+            && turns.all(|x| x.node.get() == 0)
     }
 
     /// Whether no entry of the lists is 0.
     pub fn is_full(&self) -> bool {
-        for x in &self.links {
-            if x.a.get() == 0 || x.b.get() == 0 {
-                return false;
-            }
-        }
-        for x in &self.faults {
-            if x.register.get() == 0 || x.value.get() == 0 {
-                return false;
-            }
-        }
-        for x in &self.turns {
-            if x.node.get() == 0 {
-                return false;
-            }
-        }
-        true
+        self.links.iter().all(|x| x.a.get() != 0 && x.b.get() != 0)
+            && self
+                .faults
+                .iter()
+                .all(|x| x.register.get() != 0 && x.value.get() != 0)
+            && self.turns.iter().all(|x| x.node.get() != 0)
     }
 }

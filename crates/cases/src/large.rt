@@ -1,5 +1,5 @@
 //! Large sheets, and the limits of size and of the lent lists.
-use crate::desk::{ACCEPTED, Answer, Desk, NO_ROOM};
+use crate::desk::{Answer, Desk, NO_ROOM, Refused};
 use std::alloc::Global;
 use std::fmt::Write;
 use std::process::Abort;
@@ -64,7 +64,7 @@ fn sizes(rt: &impl Abort, heap: Global, sheet: &str, at_limit: Answer) -> Result
     assert_eq!(rt; padded(rt, heap, sheet, 65536)?, at_limit);
     assert_eq!(rt;
         padded(rt, heap, sheet, 65537)?,
-        Answer { number: 2, line: 0 }
+        Err(Refused { number: 2, line: 0 })
     );
     Ok(())
 }
@@ -72,8 +72,7 @@ fn sizes(rt: &impl Abort, heap: Global, sheet: &str, at_limit: Answer) -> Result
 // Lists without room are declined before a byte is looked at, and stay.
 fn short(rt: &impl Abort, heap: Global, lists: [usize; 3], sheet: &[u8]) -> Result<(), Fail> {
     let mut desk = Desk::sized(heap, lists[0], lists[1], lists[2])?;
-    let (answer, _) = desk.read(sheet)?;
-    assert_eq!(rt; answer, NO_ROOM);
+    assert_eq!(rt; desk.read(sheet)?.map(|_| ()), NO_ROOM);
     assert!(rt; desk.is_full() && desk.site.is_none());
     Ok(())
 }
@@ -81,14 +80,14 @@ fn short(rt: &impl Abort, heap: Global, lists: [usize; 3], sheet: &[u8]) -> Resu
 // Longer lists are cleared to their ends.
 fn longer(rt: &impl Abort, heap: Global) -> Result<(), Fail> {
     let mut desk = Desk::sized(heap, 1025, 4097, 1030)?;
-    assert_eq!(rt; desk.answer(rt, LEAST.as_bytes())?, ACCEPTED);
+    assert_eq!(rt; desk.answer(rt, LEAST.as_bytes())?, Ok(()));
     Ok(())
 }
 
 #[test]
 fn limits(rt: HostRuntime) -> Result<(), Fail> {
-    sizes(&rt, rt.alloc(), LEAST, Answer { number: 1, line: 5 })?;
-    sizes(&rt, rt.alloc(), "", Answer { number: 1, line: 1 })?;
+    sizes(&rt, rt.alloc(), LEAST, Err(Refused { number: 1, line: 5 }))?;
+    sizes(&rt, rt.alloc(), "", Err(Refused { number: 1, line: 1 }))?;
     for sheet in [LEAST, "", "x"] {
         for lists in [
             [1023, 4096, 1024],
@@ -134,7 +133,7 @@ fn reads_row(rt: &impl Abort, desk: &mut Desk, nodes: u32, expected: Answer) -> 
 // Reads the largest sheet.
 fn reads_largest(rt: &impl Abort, desk: &mut Desk) -> Result<(), Fail> {
     let sheet = largest(desk.heap)?;
-    assert_eq!(rt; desk.answer(rt, sheet.as_bytes())?, ACCEPTED);
+    assert_eq!(rt; desk.answer(rt, sheet.as_bytes())?, Ok(()));
     spans(
         rt,
         desk,
@@ -145,17 +144,17 @@ fn reads_largest(rt: &impl Abort, desk: &mut Desk) -> Result<(), Fail> {
         rt,
         desk.heap,
         sheet.as_str(),
-        Answer {
+        Err(Refused {
             number: 1,
             line: 6149,
-        },
+        }),
     )
 }
 
 #[test]
 fn large_sheets(rt: HostRuntime) -> Result<(), Fail> {
     let mut desk = Desk::new(rt.alloc())?;
-    reads_row(&rt, &mut desk, 256, ACCEPTED)?;
-    reads_row(&rt, &mut desk, 257, Answer { number: 2, line: 1 })?;
+    reads_row(&rt, &mut desk, 256, Ok(()))?;
+    reads_row(&rt, &mut desk, 257, Err(Refused { number: 2, line: 1 }))?;
     reads_largest(&rt, &mut desk)
 }

@@ -18,22 +18,19 @@ static OTHERS: [&'static [u8]; 16] = [
     b"1;", b"/", b":", b"1a",
 ];
 
-// What is read of a field, or 100000 for nothing.
-fn value(field: &[u8]) -> u32 {
-    match Number::read(field) {
-        Some(n) => n.get(),
-        None => 100000,
-    }
+// What is read of a field, if anything.
+fn value(field: &[u8]) -> Option<u32> {
+    Number::read(field).map(|n| n.get())
 }
 
 fn fields(rt: &impl Abort) -> Result<(), Fail> {
-    assert_eq!(rt; value(b"0"), 0);
-    assert_eq!(rt; value(b"9"), 9);
-    assert_eq!(rt; value(b"10"), 10);
-    assert_eq!(rt; value(b"12345"), 12345);
-    assert_eq!(rt; value(b"99999"), 99999);
+    assert_eq!(rt; value(b"0"), Some(0));
+    assert_eq!(rt; value(b"9"), Some(9));
+    assert_eq!(rt; value(b"10"), Some(10));
+    assert_eq!(rt; value(b"12345"), Some(12345));
+    assert_eq!(rt; value(b"99999"), Some(99999));
     for (i, field) in OTHERS.iter().enumerate() {
-        assert_eq!(rt; value(field), 100000, "{}", i);
+        assert_eq!(rt; value(field), None, "{}", i);
     }
     assert!(rt; Number::new(99999).is_some() && Number::new(100000).is_none());
     assert_eq!(rt; field_end(b"12;3;4"), 2);
@@ -54,9 +51,7 @@ fn declines<L: WriteLine>(
 ) -> Result<(), Fail> {
     let mut page = vec![in heap; b'.'; size.saturating_add(2)]?;
     assert!(rt; line.write(&mut page, 3).is_none());
-    for x in &page {
-        assert_eq!(rt; *x, b'.');
-    }
+    assert!(rt; page.iter().all(|x| *x == b'.'));
     Ok(())
 }
 

@@ -1,9 +1,9 @@
 //! Sites: what a finished one tells, and what is declined on the way to it.
-use crate::desk::{ACCEPTED, Desk};
+use crate::desk::Desk;
 use refusal::Refusal;
+use refusal::fault::Fault;
 use site::build::build;
 use site::builder::SiteBuilder;
-use site::fault::BuildFault;
 use site::link::Link;
 use site::room::SiteRoom;
 use site::site::Site;
@@ -19,12 +19,12 @@ static SQUARE_AND_TAIL: [Link; 5] = [
     Link { a: 3, b: 4 },
 ];
 
-/// A site that is asked for, and the refusal's number.
+/// A site that is asked for, and the refusal's number, if it is declined.
 struct Plan {
     nodes: usize,
     root: usize,
     links: &'static [Link],
-    number: u8,
+    declined: Option<u8>,
 }
 
 static PLANS: [Plan; 12] = [
@@ -32,73 +32,73 @@ static PLANS: [Plan; 12] = [
         nodes: 1,
         root: 0,
         links: &[],
-        number: 0,
+        declined: None,
     },
     Plan {
         nodes: 0,
         root: 0,
         links: &[],
-        number: 2,
+        declined: Some(2),
     },
     Plan {
         nodes: 257,
         root: 0,
         links: &[],
-        number: 2,
+        declined: Some(2),
     },
     Plan {
         nodes: 257,
         root: 300,
         links: &[],
-        number: 2,
+        declined: Some(2),
     },
     Plan {
         nodes: 3,
         root: 3,
         links: &[],
-        number: 8,
+        declined: Some(8),
     },
     Plan {
         nodes: 256,
         root: 256,
         links: &[],
-        number: 8,
+        declined: Some(8),
     },
     Plan {
         nodes: 256,
         root: 255,
         links: &[],
-        number: 6,
+        declined: Some(6),
     },
     Plan {
         nodes: 2,
         root: 1,
         links: &[Link { a: 0, b: 1 }],
-        number: 0,
+        declined: None,
     },
     Plan {
         nodes: 2,
         root: 0,
         links: &[Link { a: 1, b: 0 }],
-        number: 3,
+        declined: Some(3),
     },
     Plan {
         nodes: 2,
         root: 0,
         links: &[Link { a: 0, b: 2 }],
-        number: 3,
+        declined: Some(3),
     },
     Plan {
         nodes: 2,
         root: 0,
         links: &[Link { a: 0, b: 1 }, Link { a: 0, b: 1 }],
-        number: 4,
+        declined: Some(4),
     },
     Plan {
         nodes: 4,
         root: 3,
         links: &[Link { a: 0, b: 1 }, Link { a: 1, b: 2 }],
-        number: 6,
+        declined: Some(6),
     },
 ];
 
@@ -108,8 +108,8 @@ fn tells(rt: &impl Abort, site: &Site, root: usize, distances: [usize; 5]) -> Re
     assert_eq!(rt; site.root(), root);
     assert_eq!(rt; site.arcs(), 10);
     assert_eq!(rt; site.height(), 3);
-    for v in 0..5 {
-        assert_eq!(rt; site.distance(v)?, distances[v]);
+    for (v, distance) in distances.iter().enumerate() {
+        assert_eq!(rt; site.distance(v)?, *distance);
     }
     assert!(rt; site.distance(5).is_err());
     Ok(())
@@ -121,9 +121,9 @@ static PORTS: [&'static [u16]; 6] = [&[1, 2], &[0, 3], &[0, 3], &[1, 2, 4], &[3]
 static FIRST_ARCS: [usize; 6] = [0, 2, 4, 6, 9, 10];
 
 fn ported(rt: &impl Abort, site: &Site) -> Result<(), Fail> {
-    for v in 0..6 {
+    for (v, (ports, first_arc)) in PORTS.iter().zip(&FIRST_ARCS).enumerate() {
         assert!(rt;
-            site.ports(v) == PORTS[v] && site.first_arc(v) == FIRST_ARCS[v],
+            site.ports(v) == *ports && site.first_arc(v) == *first_arc,
             "{}",
             v
         );
@@ -154,66 +154,55 @@ fn five_nodes(rt: HostRuntime) -> Result<(), Fail> {
         &rt,
         b"NODES;5\nLINKS;5\nFAULTS;0\nTURNS;0\n0;1\n0;2\n1;3\n2;3\n3;4\n",
     )?;
-    assert_eq!(rt; answer, ACCEPTED);
+    assert_eq!(rt; answer, Ok(()));
     told(&rt, &desk)?;
     turned(&rt, rt.alloc())
 }
 
-// The number of a refusal, or 0.
-fn built(heap: Global, plan: &Plan) -> Result<u8, Fail> {
+// The number of the refusal to build a site, if it is declined.
+fn built(heap: Global, plan: &Plan) -> Result<Option<u8>, Fail> {
     match build(heap, plan.nodes, plan.root, plan.links) {
-        Ok(_) => Ok(0),
-        Err(BuildFault::Refused(e)) => Ok(e.number()),
-        Err(BuildFault::Memory) => Err(Fail::new("no memory")),
+        Ok(_) => Ok(None),
+        Err(Fault::Refused(e)) => Ok(Some(e.number())),
+        Err(Fault::Memory) => Err(Fail::new("no memory")),
     }
 }
 
-// The number of a refusal, or 0.
-fn number(r: Result<(), Refusal>) -> u8 {
-    match r {
-        Ok(_) => 0,
-        Err(e) => e.number(),
-    }
-}
-
-// The number of the refusal to start in the room, or 0.
-fn started(heap: Global, nodes: usize, root: usize) -> Result<u8, Fail> {
+// The number of the refusal to start in the room, if it is declined.
+fn started(heap: Global, nodes: usize, root: usize) -> Result<Option<u8>, Fail> {
     let room = SiteRoom::new(heap)?;
-    match room.start(nodes, root) {
-        Ok(_) => Ok(0),
-        Err(e) => Ok(e.number()),
-    }
+    Ok(room.start(nodes, root).err().map(|e| e.number()))
 }
 
 // What the room answers to numbers of nodes and roots.
-static STARTS: [(usize, usize, u8); 5] = [
-    (0, 0, 2),
-    (257, 0, 2),
-    (0, 5, 2),
-    (3, 3, 8),
-    (256, 255, 0),
+static STARTS: [(usize, usize, Option<u8>); 5] = [
+    (0, 0, Some(2)),
+    (257, 0, Some(2)),
+    (0, 5, Some(2)),
+    (3, 3, Some(8)),
+    (256, 255, None),
 ];
 
 // What a builder of ten nodes answers to links, one after the other.
-static ENTERED: [(usize, usize, u8); 13] = [
-    (0, 1, 0),
-    (0, 2, 0),
-    (0, 3, 0),
-    (0, 4, 0),
-    (0, 5, 0),
-    (0, 6, 0),
-    (0, 7, 0),
-    (0, 8, 0),
-    (0, 9, 5),
-    (0, 8, 4),
-    (9, 0, 3),
-    (0, 10, 3),
-    (8, 9, 0),
+static ENTERED: [(usize, usize, Option<u8>); 13] = [
+    (0, 1, None),
+    (0, 2, None),
+    (0, 3, None),
+    (0, 4, None),
+    (0, 5, None),
+    (0, 6, None),
+    (0, 7, None),
+    (0, 8, None),
+    (0, 9, Some(5)),
+    (0, 8, Some(4)),
+    (9, 0, Some(3)),
+    (0, 10, Some(3)),
+    (8, 9, None),
 ];
 
 fn enter_all(rt: &impl Abort, builder: &mut SiteBuilder) -> Result<(), Fail> {
     for (a, b, expected) in &ENTERED {
-        assert_eq!(rt; number(builder.enter(*a, *b)), *expected);
+        assert_eq!(rt; builder.enter(*a, *b).err().map(|e| e.number()), *expected);
     }
     Ok(())
 }
@@ -231,7 +220,7 @@ fn entered(rt: &impl Abort, heap: Global) -> Result<(), Fail> {
 #[test]
 fn sites_declined(rt: HostRuntime) -> Result<(), Fail> {
     for (i, plan) in PLANS.iter().enumerate() {
-        assert_eq!(rt; built(rt.alloc(), plan)?, plan.number, "{}", i);
+        assert_eq!(rt; built(rt.alloc(), plan)?, plan.declined, "{}", i);
     }
     for (nodes, root, expected) in &STARTS {
         assert_eq!(rt; started(rt.alloc(), *nodes, *root)?, *expected);

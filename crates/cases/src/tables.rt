@@ -4,10 +4,11 @@ pub mod faults;
 pub mod links;
 pub mod turns;
 
-/// Ends of sheets that get one answer: 0 for an accepted sheet, or the refusal's number, and its line.
+use crate::desk::Answer;
+
+/// Ends of sheets that get one answer.
 pub struct Case {
-    pub number: u8,
-    pub line: usize,
+    pub answer: Answer,
     pub tails: &'static [&'static [u8]],
 }
 

@@ -1,15 +1,15 @@
 //! Writing sheets: what is written, what is declined, and that reading answers the same.
-use crate::desk::{ACCEPTED, Answer, Desk, NO_ROOM, contents, fault, link, refused, turn};
+use crate::desk::{Answer, Desk, NO_ROOM, Refused, contents, fault, link, turn};
 use crate::drafts::{DRAFTS, Draft};
 use crate::large::largest;
 use sheet::contents::Contents;
+use sheet::draft::Draft as Sheet;
 use sheet::write::write_sheet;
 use site::room::SiteRoom;
 use std::alloc::Global;
 use std::fmt::Write;
 use std::process::Abort;
 use std::test::*;
-use text::records::{FaultLine, LinkLine, TurnLine};
 
 // Lines of two numbers.
 fn add_pairs(text: &mut String, pairs: &[(u32, u32)]) -> Result<(), Fail> {
@@ -39,49 +39,31 @@ fn text_of(heap: Global, draft: &Draft) -> Result<String, Fail> {
     Ok(text)
 }
 
-// Links into the first entries.
-fn put_links(list: &mut [LinkLine], links: &[(u32, u32)]) {
-    for (i, (a, b)) in links.iter().enumerate() {
-        if i < list.len() {
-            list[i] = link(*a, *b);
-        }
-    }
-}
-
-// Faults into the first entries.
-fn put_faults(list: &mut [FaultLine], faults: &[(u32, u32)]) {
-    for (i, (register, value)) in faults.iter().enumerate() {
-        if i < list.len() {
-            list[i] = fault(*register, *value);
-        }
-    }
-}
-
-// Turns into the first entries.
-fn put_turns(list: &mut [TurnLine], turns: &[u32]) {
-    for (i, node) in turns.iter().enumerate() {
-        if i < list.len() {
-            list[i] = turn(*node);
-        }
-    }
-}
-
 // Lists whose first entries are the draft's.
 fn lists_of(heap: Global, draft: &Draft) -> Result<Desk, Fail> {
     let mut desk = Desk::new(heap)?;
-    put_links(&mut desk.links, draft.links);
-    put_faults(&mut desk.faults, draft.faults);
-    put_turns(&mut desk.turns, draft.turns);
+    for (line, (a, b)) in desk.links.iter_mut().zip(draft.links) {
+        *line = link(*a, *b);
+    }
+    for (line, (register, value)) in desk.faults.iter_mut().zip(draft.faults) {
+        *line = fault(*register, *value);
+    }
+    for (line, node) in desk.turns.iter_mut().zip(draft.turns) {
+        *line = turn(*node);
+    }
     Ok(desk)
 }
 
-// What writing answers, and the place after the sheet.
-fn write(desk: &Desk, ns: Contents, page: &mut [u8]) -> Result<(Answer, usize), Fail> {
+// What writing answers: the place after the sheet, if it is accepted.
+fn write(desk: &Desk, ns: Contents, page: &mut [u8]) -> Result<Result<usize, Refused>, Fail> {
     let room = SiteRoom::new(desk.heap)?;
-    match write_sheet(ns, &desk.links, &desk.faults, &desk.turns, room, page) {
-        Ok(n) => Ok((ACCEPTED, n)),
-        Err(e) => Ok((refused(e), 0)),
-    }
+    let draft = Sheet {
+        contents: ns,
+        links: &desk.links,
+        faults: &desk.faults,
+        turns: &desk.turns,
+    };
+    Ok(write_sheet(draft, room, page).map_err(Refused::from))
 }
 
 // On a page of so many dots more than the text has bytes, writing leaves the text and then dots.
@@ -96,9 +78,7 @@ fn leaves(
     let mut expected = text.to_vec(desk.heap)?;
     expected.resize(text.len().saturating_add(more), b'.')?;
     let mut page = vec![in desk.heap; b'.'; expected.len()]?;
-    let (answer, end) = write(desk, ns, &mut page)?;
-    assert_eq!(rt; answer, ACCEPTED, "case {case}");
-    assert_eq!(rt; end, text.len(), "case {case}");
+    assert_eq!(rt; write(desk, ns, &mut page)?, Ok(text.len()), "case {case}");
     assert!(rt; page.as_slice() == expected.as_slice(), "case {case}");
     Ok(())
 }
@@ -113,11 +93,12 @@ fn declines(
     expected: Answer,
 ) -> Result<(), Fail> {
     let mut page = vec![in desk.heap; b'.'; size]?;
-    let (answer, _) = write(desk, ns, &mut page)?;
-    assert_eq!(rt; answer, expected, "case {case}");
-    for x in &page {
-        assert_eq!(rt; *x, b'.', "case {case}");
-    }
+    assert_eq!(rt;
+        write(desk, ns, &mut page)?.map(|_| ()),
+        expected,
+        "case {case}"
+    );
+    assert!(rt; page.iter().all(|x| *x == b'.'), "case {case}");
     Ok(())
 }
 
@@ -152,7 +133,7 @@ fn judge_written(
     expected: Answer,
 ) -> Result<(), Fail> {
     let desk = lists_of(heap, draft)?;
-    if expected.number == 0 {
+    if expected.is_ok() {
         fits(rt, case, &desk, contents(draft.contents), text)
     } else {
         declines_all(rt, case, &desk, contents(draft.contents), expected)
@@ -174,20 +155,17 @@ fn judge_read(
 
 // A draft is written and read with one answer.
 fn judge(rt: &impl Abort, case: usize, heap: Global, draft: &Draft) -> Result<(), Fail> {
-    let expected = Answer {
-        number: draft.number,
-        line: draft.line,
-    };
     let text = text_of(heap, draft)?;
-    judge_read(rt, case, heap, text.as_bytes(), expected)?;
-    judge_written(rt, case, heap, draft, text.as_bytes(), expected)
+    judge_read(rt, case, heap, text.as_bytes(), draft.answer)?;
+    judge_written(rt, case, heap, draft, text.as_bytes(), draft.answer)
 }
 
 // A sheet that is read is written the same.
 fn returns(rt: &impl Abort, case: usize, heap: Global, sheet: &[u8]) -> Result<(), Fail> {
     let mut desk = Desk::new(heap)?;
-    let (answer, ns) = desk.read(sheet)?;
-    assert_eq!(rt; answer, ACCEPTED, "case {case}");
+    let Ok(ns) = desk.read(sheet)? else {
+        return Err(Fail::new("declined"));
+    };
     fits(rt, case, &desk, ns, sheet)
 }
 
@@ -205,8 +183,7 @@ struct Lent {
     lists: [usize; 3],
     longer: usize,
     contents: [u32; 4],
-    number: u8,
-    line: usize,
+    answer: Answer,
 }
 
 // The contents of the first two take 37 bytes: 65,536 in all, and 65,537.
@@ -215,56 +192,49 @@ static LENT: [Lent; 5] = [
         lists: [16374, 4096, 1024],
         longer: 3,
         contents: [1, 16374, 0, 0],
-        number: 2,
-        line: 2,
+        answer: Err(Refused { number: 2, line: 2 }),
     },
     Lent {
         lists: [16374, 4096, 1024],
         longer: 4,
         contents: [1, 16374, 0, 0],
-        number: 2,
-        line: 0,
+        answer: Err(Refused { number: 2, line: 0 }),
     },
     Lent {
         lists: [1023, 4096, 1024],
         longer: 0,
         contents: [0, 0, 0, 0],
-        number: 14,
-        line: 0,
+        answer: Err(Refused {
+            number: 14,
+            line: 0,
+        }),
     },
     Lent {
         lists: [1024, 4095, 1024],
         longer: 0,
         contents: [1, 0, 0, 0],
-        number: 14,
-        line: 0,
+        answer: Err(Refused {
+            number: 14,
+            line: 0,
+        }),
     },
     Lent {
         lists: [1024, 4096, 1023],
         longer: 0,
         contents: [0, 0, 0, 0],
-        number: 14,
-        line: 0,
+        answer: Err(Refused {
+            number: 14,
+            line: 0,
+        }),
     },
 ];
 
-// Longer links into the first entries.
-fn put_longer(list: &mut [LinkLine], count: usize) {
-    for i in 0..count {
-        if i < list.len() {
-            list[i] = link(7, 10);
-        }
-    }
-}
-
 fn judge_lent(rt: &impl Abort, case: usize, heap: Global, lent: &Lent) -> Result<(), Fail> {
     let mut desk = Desk::sized(heap, lent.lists[0], lent.lists[1], lent.lists[2])?;
-    put_longer(&mut desk.links, lent.longer);
-    let expected = Answer {
-        number: lent.number,
-        line: lent.line,
-    };
-    declines_all(rt, case, &desk, contents(lent.contents), expected)
+    for line in desk.links.iter_mut().take(lent.longer) {
+        *line = link(7, 10);
+    }
+    declines_all(rt, case, &desk, contents(lent.contents), lent.answer)
 }
 
 #[test]

@@ -2,7 +2,8 @@
 use Rattle.std.proofs.Common.{◌≡◌, ℕ, List, [], ◌∷◌, refl, subst}
 use Rattle.rounds.specs.Patience.{DueWithin, Due}
 use Rattle.rounds.proofs.PatienceLaws.{due_patient, patient_completes}
-use Rattle.daemon.specs.Dues.{Dues, Timely, Askings, NamesAll, CompletesRounds}
+use Rattle.rounds.specs.Dues.{Dues, Timely}
+use Rattle.daemon.specs.Dues.{Askings, NamesAll, CompletesRounds}
 
 timely_within : (n w : ℕ) (a : Dues) → a.nodes ≡ n → a.patience ≡ w → Timely a → DueWithin n w a.due
 timely_within n w a en ew t = subst (λ k. DueWithin k w a.due) en (subst (λ k. DueWithin a.nodes k a.due) ew t)

@@ -1,25 +1,8 @@
--- Dues of a daemon: within how many askings each node is named, and what an asking makes of that.
-use Rattle.std.specs.Prelude.{◌≡◌, ℕ, ◌*◌, ◌<◌, ◌≤◌, List, [], ◌∷◌, length, ◌≢◌}
+-- Askings of a daemon one after the other, and what they name.
+use Rattle.std.specs.Prelude.{◌≡◌, ℕ, ◌*◌, ◌<◌, ◌≤◌, List, [], ◌∷◌, length}
+use Rattle.rounds.specs.Dues.{Dues, Asked}
 use Rattle.rounds.specs.Rounds.{Completes}
-use Rattle.rounds.specs.Patience.{DueWithin, Patient}
-
--- what a daemon is at a time: its nodes are the numbers below `nodes`, and a node v is named within `due v` askings
-pub record Dues : Type 0 where
-  pub nodes : ℕ
-  pub patience : ℕ
-  pub due : ℕ → ℕ
-
--- every node's due is 1 to the patience
-abbrev pub Timely : Dues → Type 0
-Timely d = DueWithin d.nodes d.patience d.due
-
--- what an asking makes of the dues a: it names the node v, and leaves the dues z
-pub record Asked (a : Dues) (v : ℕ) (z : Dues) : Type 0 where
-  pub named : v < a.nodes
-  pub nodes : z.nodes ≡ a.nodes
-  pub patience : z.patience ≡ a.patience
-  pub falls : (u : ℕ) → u < a.nodes → (u ≢ v) → z.due u < a.due u
-  pub timely : Timely z
+use Rattle.rounds.specs.Patience.{Patient}
 
 -- askings one after the other, the oldest first, name these nodes; R says what one asking makes of a daemon
 abbrev pub Run : {X : Type 0} → (X → ℕ → X → Type 0) → X → List ℕ → X → Type 0

@@ -1,10 +1,10 @@
 -- Round robins: within how many askings a node is named, and what the calls answer.
-use Rattle.std.specs.Prelude.{◌≡◌, ℕ, ◌+◌, ◌-◌, ◌≤◌, cond, [], ◌∷◌, Ok, Err, Result, nat_le, nat_lt}
+use Rattle.std.specs.Prelude.{◌≡◌, ℕ, ◌+◌, ◌-◌, ◌≤◌, cond, [], ◌∷◌, Result, nat_le, nat_lt}
 use Rattle.refusal.specs.declared.Refusal.{Refusal}
 use Rattle.refusal.specs.declared.Refusal.TheVariants.{Limit}
-use Rattle.refusal.specs.Checks.{Checks, First, Free}
+use Rattle.refusal.specs.Checks.{Checks, Judged}
 use Rattle.daemon.specs.declared.robin.RoundRobin.{RoundRobin}
-use Rattle.daemon.specs.Dues.{Dues}
+use Rattle.rounds.specs.Dues.{Dues}
 
 -- where u is named next, a node v from u on waits for those before it, and any other for the end of the nodes too
 abbrev pub robin_due : ℕ → ℕ → ℕ → ℕ
@@ -24,8 +24,7 @@ nodes_checks n = (Limit, (1 ≤ n) × (n ≤ 256) → ⊥) ∷ []
 
 -- a round robin of n nodes was made, to name 0 first, or declined
 abbrev pub RobinMade : ℕ → Result RoundRobin Refusal → Type 0
-RobinMade n (Ok d) = Free (nodes_checks n) × (d.nodes ≡ n) × (d.next ≡ 0)
-RobinMade n (Err e) = First (nodes_checks n) e
+RobinMade n = Judged (nodes_checks n) (λ d. (d.nodes ≡ n) × (d.next ≡ 0))
 
 -- a round robin named the node that was next, and the one after it is next now
 pub record RobinAsked (a : RoundRobin) (v : ℕ) (z : RoundRobin) : Type 0 where

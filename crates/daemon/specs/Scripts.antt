@@ -1,11 +1,10 @@
 -- Scripts: within how many askings a node is named, and what the calls answer.
-use Rattle.std.specs.Prelude.{◌≡◌, ℕ, suc, ◌+◌, ◌%◌, cond, List, [], ◌∷◌, ◌++◌, length, take, drop, Some, None, Ok, Err, vec_items, Option, Result, ◌==◌, slice_index}
+use Rattle.std.specs.Prelude.{◌≡◌, ℕ, suc, ◌+◌, ◌%◌, cond, List, [], ◌∷◌, ◌++◌, length, take, drop, vec_items, Result, ◌==◌, slice_index}
 use Rattle.refusal.specs.declared.Refusal.{Refusal}
-use Rattle.refusal.specs.Checks.{Checks, First, Free}
-use Rattle.daemon.specs.declared.fault.ScriptFault.{ScriptFault}
-use Rattle.daemon.specs.declared.fault.ScriptFault.TheVariants.{Refused, Memory}
+use Rattle.refusal.specs.Checks.{Judged, Made}
+use Rattle.refusal.specs.declared.fault.Fault.{Fault}
 use Rattle.daemon.specs.declared.script.Script.{Script}
-use Rattle.daemon.specs.Dues.{Dues}
+use Rattle.rounds.specs.Dues.{Dues}
 use Rattle.daemon.specs.ScriptChecks.{script_checks}
 
 -- the names of a script
@@ -25,21 +24,17 @@ wait v (x ∷ xs) = cond (v == x) 1 (suc (wait v xs))
 abbrev pub script_dues : Script → Dues
 script_dues s = record { nodes = s.nodes; patience = length (names_of s); due = λ v. wait v (upcoming (names_of s) s.at) }
 
--- the first check that fails, if one does
-abbrev pub Checked : Checks → Option Refusal → Type 0
-Checked cs None = Free cs
-Checked cs (Some e) = First cs e
+-- a script of these names that begins with the first
+abbrev pub Begins : ℕ → List ℕ → Script → Type 0
+Begins n names s = (s.nodes ≡ n) × (names_of s ≡ names) × (s.at ≡ 0)
 
--- a script of these names was made, to begin with the first, or declined, or memory was wanting
-abbrev pub ScriptMade : ℕ → List ℕ → Result Script ScriptFault → Type 0
-ScriptMade n names (Ok s) = Free (script_checks n names) × (s.nodes ≡ n) × (names_of s ≡ names) × (s.at ≡ 0)
-ScriptMade n names (Err (Refused e)) = First (script_checks n names) e
-ScriptMade n names (Err Memory) = Free (script_checks n names)
+-- such a script was made, or declined, or memory was wanting
+abbrev pub ScriptMade : ℕ → List ℕ → Result Script Fault → Type 0
+ScriptMade n names = Made (script_checks n names) (Begins n names)
 
 -- names that were handed over make the same script, or are declined alike; no memory is wanted
 abbrev pub ScriptOwned : ℕ → List ℕ → Result Script Refusal → Type 0
-ScriptOwned n names (Ok s) = ScriptMade n names (Ok s)
-ScriptOwned n names (Err e) = ScriptMade n names (Err (Refused e))
+ScriptOwned n names = Judged (script_checks n names) (Begins n names)
 
 -- a script named what stands at its place, and the next place is one on, from the last to the first
 pub record ScriptAsked (a : Script) (v : ℕ) (z : Script) : Type 0 where

@@ -3,10 +3,9 @@
 #![tactic(auto)]
 
 ghost use Rattle.std.specs.Prelude.{◌≡◌, ℕ};
-ghost use Rattle.daemon.specs.Dues.{Asked, CompletesRounds, Dues, NamesAll, Timely};
+ghost use Rattle.rounds.specs.Dues.{Asked, Dues, Timely};
+ghost use Rattle.daemon.specs.Dues.{CompletesRounds, NamesAll};
 
-pub mod fault;
-pub mod limits;
 pub mod order;
 pub mod robin;
 pub mod script;

@@ -4,7 +4,7 @@ use Rattle.std.proofs.lemmas.List.{drop-drop, drop-set-lt, get_or-drop, set-get_
 use Rattle.std.proofs.lemmas.Bool.{or_cases, or_parts}
 use Rattle.protocol.specs.Rank.{put}
 use Rattle.protocol.proofs.RankSlots.{put_other}
-use Rattle.layers.specs.Owns.{Changed}
+use Rattle.registers.specs.Lists.{Changed}
 
 -- what is not written back to what it was has changed if either did
 both_changed : (xs ys zs : List ℕ) (a b : Bool) → (zs ≡ xs → ys ≡ xs) → Changed xs a ys → Changed ys b zs → Changed xs (a || b) zs

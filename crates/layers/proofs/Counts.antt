@@ -1,39 +1,44 @@
--- The sum over a node's children, port by port, and the rule of Count.
-use Rattle.std.proofs.Common.{◌≡◌, ℕ, suc, ◌+◌, ◌<◌, ◌≤◌, min, Bool, true, false, cond, eqb, List, ◌∷◌, length, get_or, take, drop, set, sym, refl, ap, ◌∙◌, arith}
-use Rattle.std.proofs.lemmas.List.{at_drop_more, at_drop_all, get_or-take}
+-- The sum over a node's children, port by port, and the rule of the counts.
+use Rattle.std.proofs.Common.{◌≡◌, ℕ, suc, ◌+◌, ◌<◌, ◌≤◌, min, Bool, cond, eqb, fold, List, [], ◌∷◌, get_or, set, sym, ap, ◌∙◌, arith}
 use Rattle.graph.specs.Model.{Model, Proper, ports}
 use Rattle.graph.proofs.Drawn.{inside}
 use Rattle.rounds.specs.Forest.{sum_over}
 use Rattle.rounds.proofs.Sums.{sum_cong}
 use Rattle.protocol.specs.declared.Output.{Output}
 use Rattle.protocol.specs.Outputs.{stored}
-use Rattle.protocol.specs.Layers.{children_among, children}
+use Rattle.protocol.specs.Layers.{children}
 use Rattle.protocol.specs.Count.{counter}
-use Rattle.protocol.proofs.LayerForest.{among_children}
+use Rattle.protocol.proofs.LayerForest.{among_children, children_sum}
 use Rattle.protocol.proofs.CountLaws.{count_rule}
-use Rattle.layers.proofs.Writes.{take_set_in}
+use Rattle.registers.specs.declared.Block.{Block}
+use Rattle.registers.specs.Blocks.{front, held, register}
+use Rattle.registers.specs.Fronts.{front_changed, front_read, front_set}
+use Rattle.registers.specs.Lists.{Changed}
+use Rattle.layers.specs.Below.{Ruled, is_child}
+use Rattle.layers.proofs.Children.{child_here}
 
-share : (f : ℕ → ℕ) (b : Bool) (c : ℕ) (cs : List ℕ) → sum_over f (cond b (c ∷ cs) cs) ≡ cond b (f c) 0 + sum_over f cs
-share f true c cs = refl
-share f false c cs = omega arith
+fold_sum : (n : ℕ) (f : ℕ → ℕ) (us : List ℕ) (s : ℕ) → s ≤ n → fold (λ (a u : ℕ). min (a + f u) n) s us ≡ min n (s + sum_over f us)
+fold_sum n f [] s l = omega arith
+fold_sum n f (u ∷ us) s l = let e = fold_sum n f us (min (s + f u) n) (omega arith) in omega arith
 
--- the sum so far is s, and what the ports from i on add to it makes k
-module _ (n : ℕ) (f : ℕ → ℕ) (t : ℕ → Output) (v : ℕ) (ps : List ℕ) (i s k : ℕ) (inv : min n (s + sum_over f (children_among t v (drop i ps))) ≡ k) where
-  pub sum_more : (x y : ℕ) → i < length ps → x ≡ cond (eqb (stored (t (get_or ps i 0)).parent) (suc v)) (f (get_or ps i 0)) 0 → y ≡ min (s + x) n → min n (y + sum_over f (children_among t v (drop (i + 1) ps))) ≡ k
-  sum_more x y l e z =
-      let c = get_or ps i 0 in
-      let rest = children_among t v (drop (i + 1) ps) in
-      let a : sum_over f (children_among t v (drop i ps)) ≡ cond (eqb (stored (t c).parent) (suc v)) (f c) 0 + sum_over f rest = at_drop_more (λ zs. sum_over f (children_among t v zs)) ps i 0 l ∙ share f (eqb (stored (t c).parent) (suc v)) c rest in
-      omega arith
+-- what u adds to a sum of f over the children of v
+abbrev pub share : ℕ → (ℕ → Output) → ℕ → (ℕ → ℕ) → ℕ → ℕ
+share n t v f u = cond (is_child n t v u) (f u) 0
 
-  pub sum_all : length ps ≤ i → s ≤ n → s ≡ k
-  sum_all l q = let a : sum_over f (children_among t v (drop i ps)) ≡ 0 = at_drop_all (λ zs. sum_over f (children_among t v zs)) ps i l in omega arith
+-- a sum that is cut off at the number of nodes port by port
+pub counted : (m : Model) → Proper m → (t : ℕ → Output) (v : ℕ) (f : ℕ → ℕ) → fold (λ (a u : ℕ). min (a + share m.nodes t v f u) m.nodes) 1 (ports m v) ≡ min m.nodes (1 + sum_over f (children m t v))
+counted m ok t v f =
+    let some = ok.drawn.some in
+    let ps = ports m v in
+    let told : ℕ → ℕ = λ u. cond (eqb (stored (t u).parent) (suc v)) (f u) 0 in
+    let e = sum_cong (share m.nodes t v f) told ps (λ u a. ap (λ (b : Bool). cond b (f u) 0) (child_here m.nodes t v u (inside m ok.drawn u v a).1)) in
+    fold_sum m.nodes (share m.nodes t v f) ps 1 (omega arith) ∙ ap (λ (k : ℕ). min m.nodes (1 + k)) (e ∙ sym (children_sum t v f ps))
 
 -- a write by the sum of all registers is the rule on those of nodes
-pub count_own :
-    (m : Model) → Proper m → (t : ℕ → Output) (v x : ℕ) (xs ys : List ℕ) → x ≡ min m.nodes (1 + sum_over (λ c. get_or xs c 0) (children m t v)) → ys ≡ set xs v x
-    → take m.nodes ys ≡ (counter m).rule t v (take m.nodes xs)
-count_own m ok t v x xs ys e w =
+pub count_ruled :
+    (m : Model) → Proper m → (t : ℕ → Output) (v x : ℕ) (r : Bool) (a b : Block 2304) → x ≡ min m.nodes (1 + sum_over (register a) (children m t v))
+    → held b ≡ set (held a) v x → Changed (held a) r (held b) → v < m.nodes → Ruled (counter m) t v a r b
+count_ruled m ok t v x r a b e w h l =
     let n = m.nodes in
-    let sums = sum_cong (λ c. get_or xs c 0) (λ c. get_or (take n xs) c 0) (children m t v) (λ c a. sym (get_or-take n xs c 0 (inside m ok.drawn c v (among_children t v c (ports m v) a).0).1)) in
-    ap (take n) w ∙ take_set_in n xs v x ∙ ap (set (take n xs) v) (e ∙ ap (λ (k : ℕ). min n (1 + k)) sums) ∙ sym (count_rule m t v (take n xs))
+    let sums = sum_cong (register a) (λ c. get_or (front n a) c 0) (children m t v) (λ c q. sym (front_read n a c (inside m ok.drawn c v (among_children t v c (ports m v) q).0).1)) in
+    (front_set n a b v x w l ∙ ap (set (front n a) v) (e ∙ ap (λ (k : ℕ). min n (1 + k)) sums) ∙ sym (count_rule m t v (front n a)), front_changed n a b v x w r l h)

@@ -1,4 +1,4 @@
-pub mod Writes
+pub mod Sites
 pub mod Places
 pub mod Turns
 pub mod Children

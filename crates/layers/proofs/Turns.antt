@@ -8,8 +8,8 @@ use Rattle.protocol.specs.Layers.{Layer, layered, under, over, then_turn}
 use Rattle.protocol.specs.Beside.{beside}
 use Rattle.protocol.specs.Protocols.{Protocol, Laws, Registers}
 use Rattle.silent.specs.Answers.{Turned, Told}
-use Rattle.layers.specs.Owns.{Changed}
-use Rattle.layers.specs.Fronts.{either_changed}
+use Rattle.registers.specs.Lists.{Changed}
+use Rattle.registers.specs.Fronts.{either_changed}
 
 module _ (m : Model) (p : Protocol) (b o : List ℕ) (sized : Registers p.size b) where
   under_is : under p (b ++ o) ≡ b
@@ -32,7 +32,7 @@ module _ (m : Model) (p : Protocol) (b o : List ℕ) (sized : Registers p.size b
     then_changed : Changed (b ++ o) (r || s) (c ++ d)
     then_changed =
         let width : length c ≡ p.size = ap length turned.1 ∙ (law.keeps v b turned.0 sized).0 in
-        either_changed p.size b o c d r s sized.0 width (turned.2, turned.3) changed
+        either_changed p.size b o c d r s sized.0 width turned.2 changed
 
     then_turned : (own : ℕ → List ℕ → List ℕ → List ℕ) → d ≡ own v c o → c ++ d ≡ then_turn p own v (b ++ o)
     then_turned own e =
@@ -40,7 +40,7 @@ module _ (m : Model) (p : Protocol) (b o : List ℕ) (sized : Registers p.size b
         ∙ sym (ap₂ (λ (xs ys : List ℕ). p.turn v xs ++ own v (p.turn v xs) ys) under_is over_is)
 
     pub layer_turned : (a : Layer) → d ≡ a.rule (p.output c) v o → Turned m (layered m a p) v (b ++ o) (Ok (r || s)) (c ++ d)
-    layer_turned a e = (turned.0, then_turned (λ u below own. a.rule (p.output below) u own) e, then_changed.0, then_changed.1)
+    layer_turned a e = (turned.0, then_turned (λ u below own. a.rule (p.output below) u own) e, then_changed)
 
     pub beside_turned : (q : Protocol) → d ≡ q.turn v o → Turned m (beside p q) v (b ++ o) (Ok (r || s)) (c ++ d)
-    beside_turned q e = (turned.0, then_turned (λ u left right. q.turn u right) e, then_changed.0, then_changed.1)
+    beside_turned q e = (turned.0, then_turned (λ u left right. q.turn u right) e, then_changed)

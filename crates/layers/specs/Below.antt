@@ -1,12 +1,16 @@
--- What a layer knows of the protocol that it stands over, at a site.
-use Rattle.std.specs.Prelude.{ℕ, suc, ◌+◌, min, cond, List, ◌++◌, Some, None, Option, ◌==◌}
+-- What a layer knows of the protocol that it stands over, at a site, and what it owes.
+use Rattle.std.specs.Prelude.{◌≡◌, ℕ, suc, ◌+◌, ◌≤◌, Bool, ◌&&◌, cond, List, ◌++◌, Some, None, Option, ◌==◌, nat_lt}
 use Rattle.graph.specs.Model.{Model}
 use Rattle.protocol.specs.declared.Output.{Output}
+use Rattle.protocol.specs.Layers.{Layer}
 use Rattle.protocol.specs.Outputs.{stored}
-use Rattle.protocol.specs.Protocols.{Protocol}
+use Rattle.protocol.specs.Protocols.{Protocol, Registers}
+use Rattle.protocol.proofs.LayerTurns.{registers_append}
 use Rattle.silent.specs.declared.Silent.{Ghosts}
-use Rattle.layers.specs.declared.over.Over.{Over}
-use Rattle.layers.specs.Owns.{front}
+use Rattle.registers.specs.declared.Block.{Block}
+use Rattle.registers.specs.Blocks.{front}
+use Rattle.registers.specs.Fronts.{front_registers}
+use Rattle.registers.specs.Lists.{Changed}
 
 -- what a value is
 abbrev pub means : {X : Type 0} → Ghosts X → X → Model → Protocol
@@ -16,32 +20,18 @@ means g s m = g.meaning (g.plan s) m
 abbrev pub told : {X : Type 0} → Ghosts X → X → Model → ℕ → Output
 told g s m = (means g s m).output (g.registers s m)
 
--- what u tells, if it tells v as its parent
-abbrev pub child_told : (ℕ → Output) → ℕ → ℕ → Option Output
-child_told t v u = cond (stored (t u).parent == suc v) (Some (t u)) None
+-- whether u is a node of the n and tells v as its parent
+abbrev pub is_child : ℕ → (ℕ → Output) → ℕ → ℕ → Bool
+is_child n t v u = nat_lt u n && (stored (t u).parent == suc v)
 
--- the number that goes to a child, of those from `next` on and at most n; 0 for any other node
-abbrev pub number_told : Option Output → ℕ → ℕ → ℕ
-number_told None next n = 0
-number_told (Some o) next n = min n next
+-- what u tells, if it does
+abbrev pub child_told : ℕ → (ℕ → Output) → ℕ → ℕ → Option Output
+child_told n t v u = cond (is_child n t v u) (Some (t u)) None
 
--- how many numbers a child takes
-abbrev pub count_told : Option Output → ℕ
-count_told None = 0
-count_told (Some o) = o.count
+-- a turn of v did what the layer's rule says where t is told below, and tells whether that changed its registers
+abbrev pub Ruled : Layer → (ℕ → Output) → ℕ → Block 2304 → Bool → Block 2304 → Type 0
+Ruled a t v b r c = (front a.size c ≡ a.rule t v (front a.size b)) × Changed (front a.size b) r (front a.size c)
 
--- the registers below, and then the first n over them
-abbrev pub all_registers : {X : Type 0} → Ghosts X → Over X → Model → ℕ → List ℕ
-all_registers g s m n = g.registers s.below m ++ front n s.own
-
--- a protocol with n registers more
-abbrev pub wider : Protocol → ℕ → Protocol
-wider p n = record {
-  size = p.size + n;
-  turn = p.turn;
-  output = p.output;
-  Legitimate = p.Legitimate;
-  Rest = p.Rest;
-  bound = p.bound;
-  height = p.height;
-}
+-- the registers below and those of a layer are as many as both have
+pub layer_sized : (p : Protocol) (a : Layer) → a.size ≤ 2304 → (xs : List ℕ) (b : Block 2304) → Registers p.size xs → Registers (p.size + a.size) (xs ++ front a.size b)
+layer_sized p a few xs b h = registers_append p.size a.size xs (front a.size b) h (front_registers a.size b few)

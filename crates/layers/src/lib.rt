@@ -4,6 +4,6 @@
 
 pub mod beside;
 pub mod count;
-mod over;
-mod own;
+pub mod layer;
+pub mod over;
 pub mod rank;

@@ -1,3 +1,4 @@
 pub mod Decisions
 pub mod Elements
 pub mod Pigeonhole
+pub mod Chains

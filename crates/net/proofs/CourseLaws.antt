@@ -1,5 +1,6 @@
 -- Draws from counters at zero, up to the bound.
-use Rattle.std.proofs.Common.{◌≡◌, ℕ, zero, suc, ◌*◌, ◌<◌, ◌≤◌, List, [], ◌∷◌, ◌++◌, length, Ok, Err, Result, sym, refl, ap, ◌∙◌, subst, ⊎_elim, arith}
+use Rattle.std.proofs.Common.{◌≡◌, ℕ, suc, ◌<◌, ◌≤◌, List, [], ◌∷◌, ◌++◌, length, Ok, Err, Result, sym, refl, ap, ◌∙◌, subst, ⊎_elim, arith}
+use Rattle.std.proofs.Math.Nat.{le-mul_of_pos_right}
 use Rattle.std.proofs.lemmas.Bool.{cases_lt}
 use Rattle.refusal.specs.declared.Refusal.{Refusal}
 use Rattle.rounds.specs.Rounds.{Completes, Splits}
@@ -9,15 +10,15 @@ use Rattle.site.specs.Sites.{model}
 use Rattle.protocol.specs.Protocols.{Laws, Registers, told_bound, turn_budget}
 use Rattle.silent.specs.declared.Silent.{Ghosts}
 use Rattle.daemon.specs.declared.Daemon as daemon
-use Rattle.daemon.specs.Dues as dues
-use Rattle.daemon.specs.Dues.{Askings, Dues, Run, Timely}
+use Rattle.daemon.specs.Dues.{Askings, Run}
 use Rattle.daemon.proofs.AskingsLaws.{completes_rounds}
 use Rattle.promise.specs.declared.Drawn.{Drawn}
-use Rattle.promise.specs.Nets.{Asked, Step}
+use Rattle.rounds.specs.Dues.{Dues, Asked, Timely}
+use Rattle.promise.specs.Nets.{Step}
 use Rattle.promise.proofs.Right.{last_told}
 use Rattle.promise.proofs.Sound.{Core, core_fresh, core_turned, sized_run, equal, below}
 use Rattle.net.specs.declared.net.Net.{Net}
-use Rattle.net.specs.Calls.{Does, Stays, at, daemon_of, drawing, meant, state}
+use Rattle.net.specs.Calls.{Does, Stays, at, drawing, meant, state}
 use Rattle.net.specs.Settling.{Able, Course, Drew, Early, Reached, Rests, Settles, none, more}
 use Rattle.net.proofs.SettlingLaws.{told_stays}
 
@@ -29,13 +30,6 @@ run_more R (u ∷ vs) a b z v h q = (h.0, h.1, run_more R vs h.0 b z v h.2 q)
 same_nodes : (vs : List ℕ) (a z : Dues) → Askings a vs z → z.nodes ≡ a.nodes
 same_nodes [] a z h = ap (λ d. d.nodes) h
 same_nodes (v ∷ vs) a z h = same_nodes vs h.0 z h.2 ∙ h.1.nodes
-
-asked_dues : (a z : Dues) (v : ℕ) → Asked (daemon_of a) v (daemon_of z) → dues.Asked a v z
-asked_dues a z v h = record { named = h.named; nodes = h.nodes; patience = h.patience; falls = h.falls; timely = h.timely }
-
-times_low : (w b : ℕ) → 1 ≤ w → b ≤ w * b
-times_low zero b l = absurd (omega arith)
-times_low (suc w) b l = omega arith
 
 module _ {X D : Type 0} (g : Ghosts X) (e : daemon.Ghosts D) (timely : (d : D) → Timely (e.meaning d)) (a : Net X) (d : D) where
   -- what draws from a make
@@ -62,14 +56,14 @@ module _ {X D : Type 0} (g : Ghosts X) (e : daemon.Ghosts D) (timely : (d : D) �
           stays = (s.0.0 ∙ k.stays.0, s.0.1 ∙ k.stays.1);
           core = core_turned (at a) (meant g a) some laws (state g a).registers vs a.mark a.held (state g b) (state g z) t.node t.changed k.core (omega arith) left h.2;
           asked = run_more e.Asks vs d c y t.node k.asked q;
-          askings = run_more dues.Asked vs (e.meaning d) (e.meaning c) (e.meaning y) t.node k.askings (asked_dues (e.meaning c) (e.meaning y) t.node h.1);
+          askings = run_more Asked vs (e.meaning d) (e.meaning c) (e.meaning y) t.node k.askings h.1;
         }
 
     patience_some : 1 ≤ (e.meaning d).patience
     patience_some = let n = able.nodes in let t = timely d 0 (omega arith) in let x = t.0 in let y = t.1 in omega arith
 
     told_is_bound : told_bound (meant g a) ≡ (meant g a).bound
-    told_is_bound = let t = able.turns in let l = times_low (e.meaning d).patience (told_bound (meant g a)) patience_some in omega arith
+    told_is_bound = let t = able.turns in let l = le-mul_of_pos_right (told_bound (meant g a)) patience_some in omega arith
 
     -- turns that have not completed the bound's rounds are fewer than the net grants
     in_time : (vs : List ℕ) (b : Net X) (y : D) → Walked vs b y → Early g b → length vs < turn_budget

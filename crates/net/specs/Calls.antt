@@ -7,10 +7,9 @@ use Rattle.site.specs.Sites.{model}
 use Rattle.protocol.specs.Protocols.{Protocol}
 use Rattle.silent.specs.declared.Silent.{Ghosts}
 use Rattle.daemon.specs.declared.Daemon as daemon
-use Rattle.daemon.specs.Dues.{Dues}
 use Rattle.promise.specs.declared.Drawn.{Drawn}
 use Rattle.promise.specs.Nets as nets
-use Rattle.promise.specs.Nets.{State, Daemon, Call, draw, Answer, Start, Step, Turned}
+use Rattle.promise.specs.Nets.{State, Call, draw, Answer, Start, Step, Turned}
 use Rattle.promise.specs.Promise.{Promise}
 use Rattle.promise.specs.Firm.{Firm}
 use Rattle.net.specs.declared.hold.Hold.{Hold}
@@ -44,13 +43,9 @@ Tells g a c r = Step (at a) (meant g a) (state g a) c r (state g a)
 abbrev pub Gives : {X : Type 0} → Ghosts X → Net X → ℕ → Bool → Net X → Type 0
 Gives g a v r z = Stays g a z × Turned (at a) (meant g a) (state g a) v r (state g z)
 
--- a daemon as plain data
-abbrev pub daemon_of : Dues → Daemon
-daemon_of d = record { nodes = d.nodes; patience = d.patience; due = d.due }
-
 -- a draw that finds the daemon as d and leaves it as y
 abbrev pub drawing : {X : Type 0} → daemon.Ghosts X → X → X → Call
-drawing g d y = draw (daemon_of (g.meaning d)) (daemon_of (g.meaning y))
+drawing g d y = draw (g.meaning d) (g.meaning y)
 
 -- a declined draw leaves the daemon as it is
 abbrev pub Unasked : {X : Type 0} → X → Result Drawn Refusal → X → Type 0

@@ -21,4 +21,9 @@ impl Hold {
     {
         self.badge
     }
+
+    // Ends it: what was owed is done.
+    pub(crate) fn close(self) {
+        let Hold { mark: _, badge: _ } = self;
+    }
 }

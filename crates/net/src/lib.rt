@@ -4,6 +4,5 @@
 
 mod counters;
 pub mod hold;
-pub mod limits;
 mod marks;
 pub mod net;

@@ -7,7 +7,8 @@ use Rattle.lists.proofs.Decisions.{Decided, either?, not?, lt?, le?}
 use Rattle.graph.specs.Model.{Model}
 use Rattle.rounds.specs.Marks.{marked, all_marked}
 use Rattle.protocol.specs.Protocols.{Protocol, turn_budget, told_bound, told_size}
-use Rattle.promise.specs.Nets.{State, Daemon, Asked, number, Call, turn, draw, fault, ask, ask_held, read, tell, hold, lift, cancel, Answer, checks, standing, Turned, with_held, Step}
+use Rattle.rounds.specs.Dues.{Dues as Daemon, Asked}
+use Rattle.promise.specs.Nets.{State, number, Call, turn, draw, fault, ask, ask_held, read, tell, hold, lift, cancel, Answer, checks, standing, Turned, with_held, Step}
 use Rattle.promise.specs.Firm.{Undrawn}
 
 bool? : (b c : Bool) → Decided (b ≡ c)

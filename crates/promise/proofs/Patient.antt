@@ -5,7 +5,7 @@ use Rattle.lists.specs.Members.{Among}
 use Rattle.lists.proofs.Elements.{among_append_left, among_push}
 use Rattle.rounds.specs.Rounds.{Completes, Blocks}
 use Rattle.rounds.proofs.RoundsLaws.{blocks, completes_fewer, exists, monotone}
-use Rattle.promise.specs.Nets.{Daemon, Timely, Asked}
+use Rattle.rounds.specs.Dues.{Dues as Daemon, Timely, Asked}
 use Rattle.promise.specs.History.{Event, turned, drawn, faulted, held, released, since, Draws, first, other, next}
 use Rattle.promise.proofs.Sound.{Fair}
 

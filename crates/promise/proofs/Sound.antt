@@ -11,7 +11,8 @@ use Rattle.rounds.proofs.RunsLaws.{run_append, kept_run}
 use Rattle.rounds.proofs.MarksLaws.{tracks_first, tracks_next}
 use Rattle.rounds.proofs.ChangesLaws.{last_first, last_stays, last_now}
 use Rattle.protocol.specs.Protocols.{Protocol, Registers, Laws, turn_budget}
-use Rattle.promise.specs.Nets.{State, Asked, Call, turn, draw, fault, ask, ask_held, read, tell, hold, lift, cancel, Answer, Fresh, Turned, Faulted, with_held, Step}
+use Rattle.rounds.specs.Dues.{Asked}
+use Rattle.promise.specs.Nets.{State, Call, turn, draw, fault, ask, ask_held, read, tell, hold, lift, cancel, Answer, Fresh, Turned, Faulted, with_held, Step}
 use Rattle.promise.specs.History.{Event, turned, drawn, faulted, held, released, Exchange, events, accepted, since, registers, left, is_held}
 use Rattle.promise.specs.Promise.{Run}
 

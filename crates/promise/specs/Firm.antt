@@ -6,7 +6,8 @@ use Rattle.graph.specs.Model.{Model}
 use Rattle.rounds.specs.Changes.{Last}
 use Rattle.protocol.specs.Protocols.{Protocol, turn_budget}
 use Rattle.promise.specs.declared.Drawn.{Drawn}
-use Rattle.promise.specs.Nets.{State, Daemon, Asked, Call, turn, draw, fault, ask, ask_held, read, tell, hold, lift, cancel, Answer, Step}
+use Rattle.rounds.specs.Dues.{Dues as Daemon, Asked}
+use Rattle.promise.specs.Nets.{State, Call, turn, draw, fault, ask, ask_held, read, tell, hold, lift, cancel, Answer, Step}
 use Rattle.promise.specs.History.{Rounds, Awaited}
 
 -- two states that no call tells apart: of nodes past the last, no mark is looked at

@@ -5,7 +5,8 @@ use Rattle.rounds.specs.Rounds.{Splits}
 use Rattle.rounds.specs.Forest.{Counted}
 use Rattle.graph.specs.Model.{Model}
 use Rattle.protocol.specs.Protocols.{Protocol, turn_budget, told_bound}
-use Rattle.promise.specs.Nets.{Daemon, Timely, Call, turn, draw, fault, ask, ask_held, read, tell, hold, lift, cancel, Answer, Standing}
+use Rattle.rounds.specs.Dues.{Dues as Daemon, Timely}
+use Rattle.promise.specs.Nets.{Call, turn, draw, fault, ask, ask_held, read, tell, hold, lift, cancel, Answer, Standing}
 
 -- an accepted call that does something: drawn d v y by the daemon d, which named v and became y
 pub data Event : Type 0 where

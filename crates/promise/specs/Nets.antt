@@ -5,7 +5,7 @@ use Rattle.refusal.specs.declared.Refusal.TheVariants.{Limit, Place, Node, Exhau
 use Rattle.refusal.specs.Checks.{Checks, First, Free}
 use Rattle.graph.specs.Model.{Model}
 use Rattle.rounds.specs.Marks.{count_marked, Counts}
-use Rattle.rounds.specs.Patience.{DueWithin}
+use Rattle.rounds.specs.Dues.{Dues as Daemon, Asked}
 use Rattle.protocol.specs.declared.Output.{Output}
 use Rattle.protocol.specs.Protocols.{Protocol, Registers, turn_budget, told_bound, told_size}
 use Rattle.promise.specs.declared.Drawn.{Drawn}
@@ -21,24 +21,6 @@ pub record State : Type 0 where
   pub last : ℕ
   pub mark : ℕ
   pub held : Bool
-
--- a daemon as it stands: for how many nodes it is made, its patience, and within how many askings it names each
-pub record Daemon : Type 0 where
-  pub nodes : ℕ
-  pub patience : ℕ
-  pub due : ℕ → ℕ
-
--- every due is 1 to the patience
-abbrev pub Timely : Daemon → Type 0
-Timely d = DueWithin d.nodes d.patience d.due
-
--- asked, d names v and becomes y: the due of every other node falls
-pub record Asked (d : Daemon) (v : ℕ) (y : Daemon) : Type 0 where
-  pub named : v < d.nodes
-  pub nodes : y.nodes ≡ d.nodes
-  pub patience : y.patience ≡ d.patience
-  pub falls : (u : ℕ) → u < d.nodes → (u ≢ v) → y.due u < d.due u
-  pub timely : Timely y
 
 -- what a lift or a cancel is asked with
 pub record Hold : Type 0 where
@@ -59,7 +41,7 @@ number m p a last = a.last
 number m p a awaited = m.nodes - count_marked m.nodes a.named
 number m p a mark = a.mark
 
--- draw d y finds the daemon as d and leaves it as y
+-- draw d y finds the daemon as d and leaves it as y; a daemon is what its dues are
 pub data Call : Type 0 where
   turn : ℕ → Call
   draw : Daemon → Daemon → Call

@@ -1,12 +1,13 @@
 -- What a net promises over whole runs: any calls, in any order and number, declined ones among them, with any daemons.
 use Rattle.std.specs.Prelude.{◌≡◌, ℕ, ◌*◌, ◌<◌, ◌≤◌, Bool, true, false, List, [], ◌∷◌, ◌++◌, length, Ok, Err, Result, slice_index}
 use Rattle.refusal.specs.declared.Refusal.{Refusal}
-use Rattle.refusal.specs.Checks.{Checks, First, Free}
+use Rattle.refusal.specs.Checks.{Checks, First, Free, Judged}
 use Rattle.rounds.specs.Changes.{Last}
 use Rattle.graph.specs.Model.{Model, Proper}
 use Rattle.protocol.specs.Protocols.{Protocol, Laws, told_bound, told_size}
 use Rattle.promise.specs.declared.Drawn.{Drawn}
-use Rattle.promise.specs.Nets.{State, Daemon, Asked, Hold, Question, size, bound, height, turns, rounds, last, awaited, mark, Call, turn, draw, fault, ask, ask_held, read, tell, hold, lift, cancel, Answer, checks, Start, Step}
+use Rattle.rounds.specs.Dues.{Dues as Daemon, Asked}
+use Rattle.promise.specs.Nets.{State, Hold, Question, size, bound, height, turns, rounds, last, awaited, mark, Call, turn, draw, fault, ask, ask_held, read, tell, hold, lift, cancel, Answer, checks, Start, Step}
 use Rattle.promise.specs.History.{Event, Exchange, accepted, since, registers, left, is_held, Calm, Rounds, Awaited, Reached, standing_after, Draws}
 use Rattle.promise.specs.Firm.{Firm}
 
@@ -15,12 +16,7 @@ abbrev pub Run : Model → Protocol → List ℕ → ℕ → List Exchange → S
 Run m p regs own [] z = Start m p regs own z
 Run m p regs own (e ∷ es) z = (a : State) × Run m p regs own es a × Step m p a e.0 e.1 z
 
--- accepted just where no check fails, and then what T says; else declined by the first that fails
-abbrev pub Judged : {A : Type 0} → Checks → (A → Type 0) → Result A Refusal → Type 0
-Judged cs T (Ok x) = Free cs × T x
-Judged cs T (Err e) = First cs e
-
--- the same, and a declined call hands the hold back
+-- judged, and a declined call hands the hold back
 abbrev pub Returned : {A : Type 0} → Hold → Checks → (A → Type 0) → Result A (Refusal × Hold) → Type 0
 Returned k cs T (Ok x) = Free cs × T x
 Returned k cs T (Err e) = First cs e.0 × (e.1 ≡ k)

@@ -1,43 +1,46 @@
-//! Why a call is declined: one closed list for the whole product.
+//! Why a call is declined: one closed list for the whole product, and the limits that it speaks of.
 
 #![tactic(auto)]
 
 ghost use Rattle.std.specs.Prelude.{◌≡◌};
 ghost use Rattle.refusal.specs.Numbers.{number_of};
 
-/// Why a call is declined. `specs/Numbers.antt` gives each case its number.
+pub mod fault;
+pub mod limits;
+
+/// Why a call is declined, each case with its number. `specs/Numbers.antt` says the same numbers.
 #[derive(Clone, Copy, PartialEq, Eq, Debug)]
 pub enum Refusal {
     /// A line is not in its form or lacking, or bytes follow the last line.
-    Form,
+    Form = 1,
     /// A size or a number is outside its limits.
-    Limit,
+    Limit = 2,
     /// A link does not join nodes a < b < n.
-    Order,
+    Order = 3,
     /// The link stood before.
-    Repeat,
+    Repeat = 4,
     /// An end of the link has eight ports.
-    Full,
+    Full = 5,
     /// A node cannot be reached from the root.
-    Unreached,
+    Unreached = 6,
     /// A register's place is past the last.
-    Place,
+    Place = 7,
     /// A node is not below the number of nodes.
-    Node,
+    Node = 8,
     /// A node is missing from a script.
-    Missing,
+    Missing = 9,
     /// The net has had its turns since the latest fault.
-    Exhausted,
+    Exhausted = 10,
     /// Fewer rounds than the bound are complete.
-    Early,
+    Early = 11,
     /// A hold is open.
-    Held,
+    Held = 12,
     /// The hold has another net's mark, or no hold is open.
-    Foreign,
+    Foreign = 13,
     /// A page or a list is too short.
-    Short,
+    Short = 14,
     /// The daemon is made for another number of nodes.
-    Mismatch,
+    Mismatch = 15,
 }
 
 impl Refusal {
@@ -45,22 +48,6 @@ impl Refusal {
     pub fn number(self) -> u8
         ensures { result ≡ number_of self }
     {
-        match self {
-            Refusal::Form => 1,
-            Refusal::Limit => 2,
-            Refusal::Order => 3,
-            Refusal::Repeat => 4,
-            Refusal::Full => 5,
-            Refusal::Unreached => 6,
-            Refusal::Place => 7,
-            Refusal::Node => 8,
-            Refusal::Missing => 9,
-            Refusal::Exhausted => 10,
-            Refusal::Early => 11,
-            Refusal::Held => 12,
-            Refusal::Foreign => 13,
-            Refusal::Short => 14,
-            Refusal::Mismatch => 15,
-        }
+        self as u8
     }
 }

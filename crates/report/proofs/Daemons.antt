@@ -16,8 +16,8 @@ use Rattle.daemon.specs.Scripts.{ScriptAsked, ScriptOwned}
 use Rattle.daemon.specs.Scripts as scripts
 use Rattle.daemon.specs.declared.robin.RoundRobin.{RoundRobin}
 use Rattle.daemon.specs.declared.script.Script.{Script}
-use Rattle.daemon.specs.contracts.robin.calls.RoundRobinDaemon.TheImpl as robin
-use Rattle.daemon.specs.contracts.script.calls.ScriptDaemon.TheImpl as script
+use Rattle.daemon.specs.contracts.robin.RoundRobinDaemon.TheImpl as robin
+use Rattle.daemon.specs.contracts.script.ScriptDaemon.TheImpl as script
 use Rattle.daemon.proofs.OrdersLaws.{robin_order, script_order}
 use Rattle.promise.specs.Nets.{Fresh}
 use Rattle.promise.proofs.Checked.{free_first}
@@ -38,11 +38,11 @@ pub robin_able : {X : Type 0} (g : Ghosts X) (a : Net X) (n : ℕ) (d : RoundRob
 robin_able g a n d made same fresh low =
     let few = d.few in
     let most = mul-le d.nodes (told_bound (meant g a)) 256 768 few low in
-    record { fresh = fresh; nodes = made.1 ∙ same; turns = omega arith }
+    record { fresh = fresh; nodes = made.1.0 ∙ same; turns = omega arith }
 
 pub robin_ordered : (n : ℕ) (names vs : List ℕ) (d y : RoundRobin) → RobinMade n (Ok d) → names ≡ [] → Run RobinAsked d vs y → Ordered n names vs
 robin_ordered n names vs d y made none asked = λ k l.
-    robin_order d y vs asked k l ∙ ap (λ i. i % d.nodes) (from_first d.next k made.2) ∙ ap (λ m. k % m) made.1 ∙ ap (λ ns. named n ns k) (sym none)
+    robin_order d y vs asked k l ∙ ap (λ i. i % d.nodes) (from_first d.next k made.1.1) ∙ ap (λ m. k % m) made.1.0 ∙ ap (λ ns. named n ns k) (sym none)
 
 -- with turn lines
 pub script_free : (n : ℕ) (names : List ℕ) → 0 < length names → Scripted n names → Free (script_checks n names)
@@ -59,9 +59,9 @@ script_made n names r free declined = free_first (script_checks n names) r free 
 pub script_able : {X : Type 0} (g : Ghosts X) (a : Net X) (n : ℕ) (names : List ℕ) (d : Script) → ScriptOwned n names (Ok d) → n ≡ (at a).nodes → Fresh (at a).nodes (state g a) → told_bound (meant g a) ≤ 768 → Able g script.ghosts a d
 script_able g a n names d made same fresh low =
     let few : length names ≤ 1024 = most made.0 in
-    let long = ap length made.2 in
+    let long = ap length made.1.1 in
     let most = mul-le (length (scripts.names_of d)) (told_bound (meant g a)) 1024 768 (omega arith) low in
-    record { fresh = fresh; nodes = made.1 ∙ same; turns = omega arith }
+    record { fresh = fresh; nodes = made.1.0 ∙ same; turns = omega arith }
   where
     most : Free (script_checks n names) → length names ≤ 1024
     most free = ⊎_elim (λ over. absurd (free.0 (λ limits. let l = limits.1 in omega arith))) (λ l. l) (cases_lt 1024 (length names))
@@ -69,8 +69,8 @@ script_able g a n names d made same fresh low =
 pub script_ordered : (n : ℕ) (names vs : List ℕ) (d y : Script) → 0 < length names → ScriptOwned n names (Ok d) → Run ScriptAsked d vs y → Ordered n names vs
 script_ordered n names vs d y some made asked = λ k l.
     script_order d y vs asked k l
-    ∙ ap (λ i. get_or (scripts.names_of d) (i % length (scripts.names_of d)) 0) (from_first d.at k made.3)
-    ∙ ap (λ ns. get_or ns (k % length ns) 0) made.2
+    ∙ ap (λ i. get_or (scripts.names_of d) (i % length (scripts.names_of d)) 0) (from_first d.at k made.1.2)
+    ∙ ap (λ ns. get_or ns (k % length ns) 0) made.1.1
     ∙ sym (named_script n names k some)
 
 -- the nodes of a script's lines have 16 bits

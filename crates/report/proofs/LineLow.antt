@@ -13,7 +13,8 @@ use Rattle.text.specs.declared.fault.ScanFault.TheVariants.{Form, Lacking, Trail
 use Rattle.sheet.specs.declared.contents.Contents.{Contents}
 use Rattle.sheet.specs.declared.fault.SheetFault.{SheetFault}
 use Rattle.sheet.specs.declared.fault.SheetFault.TheVariants.{Refused, Scan}
-use Rattle.sheet.specs.Body.{Body, Front, Out, Refuses, Rules, passed, refused, written}
+use Rattle.sheet.specs.Body.{Body, Front, Out, Refuses, Rules, passed, refused}
+use Rattle.text.specs.Written.{lines_of}
 use Rattle.sheet.specs.Faults.{line_of}
 use Rattle.sheet.specs.Judge.{Declines, Lists, Named, Sheet, and_then, contents, ending, give, link_lines, lines, numbers, places, refuse_if, start, turn_lines}
 use Rattle.sheet.specs.Kinds.{contents_rules, fault_rules, link_rules, site_of, turn_rules}
@@ -64,11 +65,11 @@ unfolding weight
 refuses_low bytes rules k before q (Scan s) h = why_low bytes q s h
 refuses_low bytes rules k before q (Refused c l) h = let i = h.0 in omega arith
 
-feeds : {X : Type 0} (bytes : X → List ℕ) (xs : List X) → length xs ≤ length (written bytes xs)
+feeds : {X : Type 0} (bytes : X → List ℕ) (xs : List X) → length xs ≤ length (lines_of bytes xs)
 feeds bytes [] = omega arith
 feeds bytes (x ∷ xs) =
     let a = feeds bytes xs in
-    let b = length-append (bytes x ++ (10 ∷ [])) (written bytes xs) in
+    let b = length-append (bytes x ++ (10 ∷ [])) (lines_of bytes xs) in
     let c = length-append (bytes x) (10 ∷ []) in
     omega arith
 
@@ -76,7 +77,7 @@ front_low : {X : Type 0} (bytes : X → List ℕ) (rules : Rules X) (k : ℕ) (x
 unfolding weight
 front_low bytes rules k xs p q f =
     let a = feeds bytes xs in
-    let b = ap length f.text ∙ length-append (written bytes xs) q.rest in
+    let b = ap length f.text ∙ length-append (lines_of bytes xs) q.rest in
     let c = f.lines in
     omega arith
 

@@ -5,17 +5,18 @@ use Rattle.protocol.specs.Stack.{stack}
 use Rattle.bases.specs.Registers.{matching_registers, tree_registers}
 use Rattle.bases.specs.declared.matching.Matching.{Matching}
 use Rattle.bases.specs.declared.tree.Tree.{Tree}
-use Rattle.layers.specs.Owns.{front}
 use Rattle.layers.specs.declared.beside.Beside.{Beside}
-use Rattle.layers.specs.declared.count.Count.{Count}
-use Rattle.layers.specs.declared.rank.Rank.{Rank}
+use Rattle.layers.specs.declared.count.Subtrees.{Subtrees}
+use Rattle.layers.specs.declared.over.Over.{Over}
+use Rattle.layers.specs.declared.rank.Preorder.{Preorder}
+use Rattle.registers.specs.Blocks.{front}
 
 abbrev pub Stack : Type 0
-Stack = Beside (Rank (Count Tree)) Matching
+Stack = Beside (Over (Over Tree Subtrees) Preorder) Matching
 
 -- distances and parents, then counts, then ranks and slots, then the nodes that are named for mates
 abbrev pub stack_registers : Stack → Model → List ℕ
-stack_registers s m = ((tree_registers s.left.layer.below.layer.below m ++ front m.nodes s.left.layer.below.layer.own) ++ front (m.nodes + arcs m) s.left.layer.own) ++ matching_registers s.right m
+stack_registers s m = ((tree_registers s.left.below.below m ++ front m.nodes s.left.below.own) ++ front (m.nodes + arcs m) s.left.own) ++ matching_registers s.right m
 
 -- all of them are 0, at every site
 abbrev pub Blank : Stack → Type 0

@@ -1,33 +1,26 @@
+//! The answer to a sheet.
 ghost use Rattle.std.specs.Prelude.{◌≡◌, ◌<◌, [], ◌∷◌, ◌++◌};
 ghost use Rattle.refusal.specs.Numbers.{number_of};
-ghost use Rattle.text.specs.Lines.{refused_bytes, tally_bytes};
+ghost use Rattle.text.specs.Lines.{refused_bytes, report_bytes, tally_bytes};
 ghost use Rattle.report.specs.Answers.{Answered, Put, bound_line, refusal_line};
 ghost use Rattle.report.specs.Faults.{program_cause, program_line};
-ghost use Rattle.sheet.specs.Sheets.{lists};
+ghost use Rattle.sheet.specs.Sheets.{given, left};
 
 use crate::bound::sheet_bound;
 use crate::fault::ProgramFault;
 use refusal::Refusal;
+use sheet::lent::Lists;
 use site::room::SiteRoom;
 use site::site::Site;
-use text::line::WriteLine;
+use text::lines::write_lines;
 use text::number::Number;
-use text::records::{FaultLine, LinkLine, TurnLine};
-use text::report::{RefusedLine, Tally, TallyWord};
+use text::report::{RefusedLine, ReportLine, Tally, TallyWord};
 
 // Writes a line with its line feed at the start of the page; the place after it. `Short` without room, and the page stays.
-fn put_line<L: WriteLine>(line: &L, page: &mut [u8]) -> Result<usize, Refusal>
-    ensures { Put (L.WriteLine.bytes line.now ++ (10 ∷ [])) page.old result page.new }
+fn put_line(line: ReportLine, page: &mut [u8]) -> Result<usize, Refusal>
+    ensures { Put (report_bytes line ++ (10 ∷ [])) page.old result page.new }
 {
-    let size = line.size();
-    if size >= page.len() {
-        return Err(Refusal::Short);
-    }
-    let Some(end) = line.write(page, 0) else {
-        return Err(Refusal::Short);
-    };
-    page[end] = b'\n';
-    Ok(end + 1)
+    write_lines(&[line], page, 0).ok_or(Refusal::Short)
 }
 
 // A number that is known to have at most five digits.
@@ -35,10 +28,7 @@ fn small(value: u32) -> Number
     requires { value < 100000 }
     ensures { result.value ≡ value }
 {
-    match Number::new(value) {
-        Some(number) => number,
-        None => Number::zero(),
-    }
+    Number::new(value).unwrap_or(Number::zero())
 }
 
 // The line of a declined sheet.
@@ -68,17 +58,26 @@ fn bound_line(bound: u32) -> Tally
 /// Lists, room and the site's place are as for `read_sheet`.
 pub fn answer(
     bytes: &[u8],
-    links: &mut [LinkLine],
-    faults: &mut [FaultLine],
-    turns: &mut [TurnLine],
+    lists: Lists,
     room: SiteRoom,
     site: &mut Option<Site>,
     page: &mut [u8],
 ) -> Result<usize, Refusal>
-    ensures { Answered bytes.now (lists links.old faults.old turns.old) site.old page.old result (lists links.new faults.new turns.new) site.new page.new }
+    ensures { Answered bytes.now (given lists.entry) site.old page.old result (left lists.exit) site.new page.new }
 {
-    match sheet_bound(bytes, links, faults, turns, room, site) {
-        Ok(bound) => put_line(&bound_line(bound), page),
-        Err(e) => put_line(&refused_line(e), page),
+    let Lists {
+        links,
+        faults,
+        turns,
+    } = lists;
+    let lent = Lists {
+        links,
+        faults,
+        turns,
+    };
+    // By cases: two kinds of line are written.
+    match sheet_bound(bytes, lent, room, site) {
+        Ok(bound) => put_line(ReportLine::Tally(bound_line(bound)), page),
+        Err(e) => put_line(ReportLine::Refused(refused_line(e)), page),
     }
 }

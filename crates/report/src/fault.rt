@@ -1,3 +1,4 @@
+//! Why there is nothing to report.
 ghost use Rattle.std.specs.Prelude.{◌≡◌};
 ghost use Rattle.report.specs.Faults.{program_cause, program_line};
 ghost use Rattle.report.specs.declared.fault.ProgramFault.TheVariants.{Sheet};
@@ -18,8 +19,7 @@ impl ProgramFault {
         ensures { result ≡ program_cause self.now }
     {
         match self {
-            ProgramFault::Sheet(SheetFault::Scan(_)) => Refusal::Form,
-            ProgramFault::Sheet(SheetFault::Refused(cause, _)) => *cause,
+            ProgramFault::Sheet(fault) => fault.cause(),
         }
     }
 
@@ -28,8 +28,7 @@ impl ProgramFault {
         ensures { result ≡ program_line self.now }
     {
         match self {
-            ProgramFault::Sheet(SheetFault::Scan(e)) => e.line(),
-            ProgramFault::Sheet(SheetFault::Refused(_, line)) => *line,
+            ProgramFault::Sheet(fault) => fault.line(),
         }
     }
 }

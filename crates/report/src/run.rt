@@ -20,23 +20,21 @@ pub(crate) fn enter<P: Silent>(net: &mut Net<P>, faults: &[FaultLine])
     ensures { Entered P.Silent net.old faults.now net.new }
 {
     for fault in faults {
-        match net.fault(fault.register.get() as u64, fault.value.get()) {
-            Ok(_) => {}
-            Err(_) => unreachable(),
-        }
+        let Ok(()) = net.fault(fault.register.get() as u64, fault.value.get()) else {
+            unreachable()
+        };
     }
 }
 
 // The nodes of turn lines, in memory that has room for them.
-fn nodes_of(turns: &[TurnLine], names: Vec<u16>) -> Vec<u16>
+fn nodes_of(turns: &[TurnLine], mut names: Vec<u16>) -> Vec<u16>
     requires room { length turns.now ≤ vec_len names }
     requires few { AllByRecursion (λ t. t.node.value ≤ 65535) turns.now }
     ensures { result.items ≡ names_of turns.now }
 {
-    let mut names = names;
-    names.truncate(turns.len());
-    for (i, turn) in turns.iter().enumerate() {
-        names[i] = turn.node.get() as u16;
+    names.clear();
+    for turn in turns {
+        names.push_reserved(turn.node.get() as u16);
     }
     names
 }
@@ -46,10 +44,9 @@ fn draw<P: Silent, D: Daemon>(net: &mut Net<P>, daemon: &mut D)
     requires { Able P.Silent D.Daemon net.old daemon.old }
     ensures { Course P.Silent D.Daemon net.old daemon.old net.new daemon.new }
 {
-    match net.settle(daemon) {
-        Ok(_) => {}
-        Err(_) => unreachable(),
-    }
+    let Ok(()) = net.settle(daemon) else {
+        unreachable()
+    };
 }
 
 // Draws until the rounds equal the bound: by round robin without turn lines, else by the script that they are.
@@ -62,20 +59,14 @@ pub(crate) fn settle<P: Silent>(net: &mut Net<P>, nodes: usize, turns: &[TurnLin
     ensures { Rested P.Silent net.old (names_of turns.now) net.new }
 {
     if turns.is_empty() {
-        match RoundRobin::new(nodes) {
-            Ok(robin) => {
-                let mut robin = robin;
-                draw(net, &mut robin)
-            }
-            Err(_) => unreachable(),
-        }
+        let Ok(mut robin) = RoundRobin::new(nodes) else {
+            unreachable()
+        };
+        draw(net, &mut robin)
     } else {
-        match Script::owned(nodes, nodes_of(turns, names)) {
-            Ok(script) => {
-                let mut script = script;
-                draw(net, &mut script)
-            }
-            Err(_) => unreachable(),
-        }
+        let Ok(mut script) = Script::owned(nodes, nodes_of(turns, names)) else {
+            unreachable()
+        };
+        draw(net, &mut script)
     }
 }

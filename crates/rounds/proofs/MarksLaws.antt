@@ -53,7 +53,7 @@ marks_count (suc n) f r m = go (f n) (m n (omega arith)) (marks_count n f r (λ 
     go true h c = subst (Counted (λ v. Among v r) (suc n)) (omega arith) (pass (h.0 refl) c)
     go false h c = subst (Counted (λ v. Among v r) (suc n)) (omega arith) (fail (λ a. both_ways false refl (h.1 a)) c)
 
-count_low : (n : ℕ) (f : ℕ → Bool) → count_marked n f ≤ n
+pub count_low : (n : ℕ) (f : ℕ → Bool) → count_marked n f ≤ n
 count_low zero f = omega arith
 count_low (suc n) f = go (f n) (count_low n f)
   where

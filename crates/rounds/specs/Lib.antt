@@ -6,3 +6,4 @@ pub mod Marks
 pub mod Changes
 pub mod Patience
 pub mod Views
+pub mod Dues

@@ -2,8 +2,9 @@
 
 #![tactic(auto)]
 
+use refusal::limits::{BYTES, FAULTS, LINKS, NAMES};
 use report::answer::answer;
-use site::fault::BuildFault;
+use sheet::lent::Lists;
 use site::room::SiteRoom;
 use std::alloc::{AllocError, Global};
 use std::io;
@@ -12,31 +13,22 @@ use text::line::ReadLine;
 use text::records::{FaultLine, LinkLine, TurnLine};
 
 // One byte more than a sheet may have: what is longer is declined, and not cut.
-const MOST: u64 = 65537;
+const MOST: u64 = BYTES as u64 + 1;
 
 // The answer to a sheet.
 fn respond(heap: Global, bytes: &[u8]) -> Result<Vec<u8>, AllocError> {
-    let mut links = vec![in heap; LinkLine::blank(); 1024]?;
-    let mut faults = vec![in heap; FaultLine::blank(); 4096]?;
-    let mut turns = vec![in heap; TurnLine::blank(); 1024]?;
+    let mut links = vec![in heap; LinkLine::blank(); LINKS]?;
+    let mut faults = vec![in heap; FaultLine::blank(); FAULTS]?;
+    let mut turns = vec![in heap; TurnLine::blank(); NAMES]?;
     let mut page = vec![in heap; 0u8; 64]?;
-    let room = match SiteRoom::new(heap) {
-        Ok(room) => room,
-        Err(_) => return Err(AllocError),
+    let room = SiteRoom::new(heap)?;
+    let lists = Lists {
+        links: &mut links,
+        faults: &mut faults,
+        turns: &mut turns,
     };
-    let mut site = None;
-    match answer(
-        bytes,
-        &mut links,
-        &mut faults,
-        &mut turns,
-        room,
-        &mut site,
-        &mut page,
-    ) {
-        Ok(size) => page.truncate(size),
-        Err(_) => page.clear(),
-    }
+    let size = answer(bytes, lists, room, &mut None, &mut page).unwrap_or(0);
+    page.truncate(size);
     Ok(page)
 }
 

@@ -12,7 +12,8 @@ use Rattle.text.specs.declared.records.TurnLine.{TurnLine}
 use Rattle.sheet.specs.declared.contents.Contents.{Contents}
 use Rattle.sheet.specs.declared.fault.SheetFault.{SheetFault}
 use Rattle.sheet.specs.declared.fault.SheetFault.TheVariants.{Refused}
-use Rattle.sheet.specs.Body.{Body, BodyChecked, Good, refused, written}
+use Rattle.sheet.specs.Body.{Body, BodyChecked, Good, refused}
+use Rattle.text.specs.Written.{lines_of}
 use Rattle.sheet.specs.Checking.{ContentsChecked, LinesChecked, LinksChecked, TurnsChecked, ahead}
 use Rattle.sheet.specs.Judge.{Lists, Named, places, turn_lines}
 use Rattle.sheet.specs.Kinds.{contents_rules, fault_rules, link_rules, site_of, turn_rules}
@@ -47,25 +48,25 @@ all_named n ts h some = ⊎_elim (λ yes. yes) (λ no. absurd (h (some, no))) (a
 
 module _ (ns : Contents) (l : Lists) (nl : length l.links ≡ ns.links.value) (nf : length l.faults ≡ ns.faults.value) (nt : length l.turns ≡ ns.turns.value) where
   abbrev p2 : Spot
-  p2 = record { rest = written fault_bytes l.faults ++ written turn_bytes l.turns; line = 4 + length l.links }
+  p2 = record { rest = lines_of fault_bytes l.faults ++ lines_of turn_bytes l.turns; line = 4 + length l.links }
 
   abbrev p3 : Spot
-  p3 = record { rest = written turn_bytes l.turns; line = 4 + length l.links + length l.faults }
+  p3 = record { rest = lines_of turn_bytes l.turns; line = 4 + length l.links + length l.faults }
 
   pub lines_at_links : (e : SheetFault) → LinksChecked ns l.links (Err e) → LinesChecked ns l (Err e)
-  lines_at_links e h = at_links ns (after_contents l) e (h (written fault_bytes l.faults ++ written turn_bytes l.turns))
+  lines_at_links e h = at_links ns (after_contents l) e (h (lines_of fault_bytes l.faults ++ lines_of turn_bytes l.turns))
 
   module _ (links : LinksChecked ns l.links (Ok tt)) where
     pub lines_at_faults : (e : SheetFault) → BodyChecked fault_bytes fault_rules (places ns) l.faults (4 + length l.links) (Err e) → LinesChecked ns l (Err e)
     lines_at_faults e h =
         at_faults ns (after_contents l) l.links p2 (links_pass ns (after_contents l) l.links p2 (nl, front_whole link_bytes link_rules ns.nodes.value l.links p2.rest 4 links.0) links.1) e
-        (subst (λ (k : ℕ). Body fault_bytes fault_rules (places ns) k p2 (refused e)) nf (h (written turn_bytes l.turns)))
+        (subst (λ (k : ℕ). Body fault_bytes fault_rules (places ns) k p2 (refused e)) nf (h (lines_of turn_bytes l.turns)))
 
     pub lines_at_turns : Good fault_rules (places ns) [] l.faults → (e : SheetFault) → TurnsChecked ns l.turns (4 + length l.links + length l.faults) (Err e) → LinesChecked ns l (Err e)
     lines_at_turns good e h =
         at_turns ns (after_contents l) l.links p2 (links_pass ns (after_contents l) l.links p2 (nl, front_whole link_bytes link_rules ns.nodes.value l.links p2.rest 4 links.0) links.1)
         l.faults p3 (nf, front_whole fault_bytes fault_rules (places ns) l.faults p3.rest (4 + length l.links) good) e
-        (subst (λ (r : List ℕ). Turned r) (append-nil (written turn_bytes l.turns)) (h []))
+        (subst (λ (r : List ℕ). Turned r) (append-nil (lines_of turn_bytes l.turns)) (h []))
       where
         Turned : List ℕ → Type 0
         Turned r = turn_lines ns (record { rest = r; line = 4 + length l.links + length l.faults }) (refused e)

@@ -7,7 +7,8 @@ use Rattle.text.specs.declared.records.LinkLine.{LinkLine}
 use Rattle.text.specs.declared.records.TurnLine.{TurnLine}
 use Rattle.sheet.specs.declared.contents.Contents.{Contents}
 use Rattle.sheet.specs.declared.fault.SheetFault.{SheetFault}
-use Rattle.sheet.specs.Body.{Front, passed, written}
+use Rattle.sheet.specs.Body.{Front, passed}
+use Rattle.text.specs.Written.{lines_of}
 use Rattle.text.specs.Lines.{contents_bytes, link_bytes, fault_bytes, turn_bytes}
 use Rattle.sheet.specs.Kinds.{link_rules, fault_rules, turn_rules}
 use Rattle.sheet.specs.Judge.{Lists, Sheet, Accepts, contents, link_lines, lines, places, start, turn_lines}
@@ -16,15 +17,15 @@ use Rattle.sheet.proofs.Heads.{good_heads, heads_good}
 use Rattle.sheet.proofs.Judgement.{sole}
 use Rattle.sheet.proofs.Stops.{all_lines, links_pass, turns_pass}
 
-links_written : (ns : Contents) (p q : Spot) (ls : List LinkLine) → link_lines ns p (passed ls q) → p.rest ≡ written link_bytes ls ++ q.rest
+links_written : (ns : Contents) (p q : Spot) (ls : List LinkLine) → link_lines ns p (passed ls q) → p.rest ≡ lines_of link_bytes ls ++ q.rest
 links_written ns p q ls h =
     let mid = h.1.2.1 in
-    h.1.1.1.text ∙ ap (λ (xs : List LinkLine). written link_bytes xs ++ h.1.0.rest) (sym mid.2.0) ∙ ap (λ (s : Spot). written link_bytes ls ++ s.rest) (sym mid.1.1 ∙ sym mid.2.1)
+    h.1.1.1.text ∙ ap (λ (xs : List LinkLine). lines_of link_bytes xs ++ h.1.0.rest) (sym mid.2.0) ∙ ap (λ (s : Spot). lines_of link_bytes ls ++ s.rest) (sym mid.1.1 ∙ sym mid.2.1)
 
-turns_written : (ns : Contents) (p q : Spot) (ts : List TurnLine) → turn_lines ns p (passed ts q) → p.rest ≡ written turn_bytes ts ++ q.rest
+turns_written : (ns : Contents) (p q : Spot) (ts : List TurnLine) → turn_lines ns p (passed ts q) → p.rest ≡ lines_of turn_bytes ts ++ q.rest
 turns_written ns p q ts h =
     let mid = h.1.2.1 in
-    h.1.1.1.text ∙ ap (λ (xs : List TurnLine). written turn_bytes xs ++ h.1.0.rest) (sym mid.2.0) ∙ ap (λ (s : Spot). written turn_bytes ts ++ s.rest) (sym mid.1.1 ∙ sym mid.2.1)
+    h.1.1.1.text ∙ ap (λ (xs : List TurnLine). lines_of turn_bytes xs ++ h.1.0.rest) (sym mid.2.0) ∙ ap (λ (s : Spot). lines_of turn_bytes ts ++ s.rest) (sym mid.1.1 ∙ sym mid.2.1)
 
 lists_written : (ns : Contents) (p q : Spot) (ls : Lists) → lines ns p (passed ls q) → p.rest ≡ body_bytes ls
 lists_written ns p q ls h =
@@ -35,9 +36,9 @@ lists_written ns p q ls h =
     let ts = h3.0 in
     let h4 = h3.1.2.1 in
     let is : ls ≡ record { links = lk; faults = fs; turns = ts } = h4.2.0 in
-    links_written ns p h.1.0 lk h.1.1 ∙ ap (λ (r : List ℕ). written link_bytes lk ++ r)
-    (h2.1.1.1.text ∙ ap (λ (r : List ℕ). written fault_bytes fs ++ r)
-    (turns_written ns h2.1.0 h3.1.0 ts h3.1.1 ∙ ap (λ (r : List ℕ). written turn_bytes ts ++ r) h4.1.0 ∙ append-nil (written turn_bytes ts)))
+    links_written ns p h.1.0 lk h.1.1 ∙ ap (λ (r : List ℕ). lines_of link_bytes lk ++ r)
+    (h2.1.1.1.text ∙ ap (λ (r : List ℕ). lines_of fault_bytes fs ++ r)
+    (turns_written ns h2.1.0 h3.1.0 ts h3.1.1 ∙ ap (λ (r : List ℕ). lines_of turn_bytes ts ++ r) h4.1.0 ∙ append-nil (lines_of turn_bytes ts)))
     ∙ ap body_bytes (sym is)
 
 pub accepted_written : (bytes : List ℕ) (s : Sheet) → Accepts bytes s → bytes ≡ sheet_bytes s
@@ -55,8 +56,8 @@ accepted_written bytes s h =
     let p2 = h3.1.0 in
     let rest : pc.rest ≡ body_bytes ls = ap (λ (x : Spot). x.rest) (sym cont.1.2.1) ∙ lists_written ns p1 p2 ls h3.1.1 in
     let cs-is : cs ≡ heads ns = (heads_good cs front.0 front.1.good).0 ∙ ap heads (sym cont.1.2.0) in
-    ap (λ (x : Spot). x.rest) (sym h1.1.1) ∙ front.1.text ∙ ap (λ (r : List ℕ). written contents_bytes cs ++ r) rest
-    ∙ ap (λ (x : List ContentsLine). written contents_bytes x ++ body_bytes ls) cs-is
+    ap (λ (x : Spot). x.rest) (sym h1.1.1) ∙ front.1.text ∙ ap (λ (r : List ℕ). lines_of contents_bytes cs ++ r) rest
+    ∙ ap (λ (x : List ContentsLine). lines_of contents_bytes x ++ body_bytes ls) cs-is
     ∙ ap sheet_bytes (sym h3.1.2.0)
 
 pub exactly : (bytes : List ℕ) (l : Lists) (r : Result Contents SheetFault) → Judged bytes l r → Exact bytes l r
@@ -79,12 +80,12 @@ proper_accepted s h =
     let small = h.small in
     let p0 : Spot = start (sheet_bytes s) in
     let p1 : Spot = after_contents s.lists in
-    let p2 : Spot = record { rest = written fault_bytes fs ++ written turn_bytes ts; line = 4 + length ls } in
-    let p3 : Spot = record { rest = written turn_bytes ts; line = 4 + length ls + length fs } in
+    let p2 : Spot = record { rest = lines_of fault_bytes fs ++ lines_of turn_bytes ts; line = 4 + length ls } in
+    let p3 : Spot = record { rest = lines_of turn_bytes ts; line = 4 + length ls + length fs } in
     let p4 : Spot = record { rest = []; line = 4 + length ls + length fs + length ts } in
     let f1 : Front link_bytes link_rules ns.nodes.value ls p1 p2 = record { text = refl; lines = refl; good = h.links_good } in
     let f2 : Front fault_bytes fault_rules (places ns) fs p2 p3 = record { text = refl; lines = refl; good = h.faults_good } in
-    let f3 : Front turn_bytes turn_rules ns.nodes.value ts p3 p4 = record { text = sym (append-nil (written turn_bytes ts)); lines = refl; good = h.turns_good } in
+    let f3 : Front turn_bytes turn_rules ns.nodes.value ts p3 p4 = record { text = sym (append-nil (lines_of turn_bytes ts)); lines = refl; good = h.turns_good } in
     let all = all_lines ns p1 ls p2 (links_pass ns p1 ls p2 (h.links_count, f1) h.reached) fs p3 (h.faults_count, f2) ts p4 (turns_pass ns p3 ts p4 (h.turns_count, f3) (λ m. m.1 (h.named m.0))) refl in
     (p4, (tt, (p0, ((λ (over : 65536 < length (sheet_bytes s)). omega arith), refl), (ns, (p1, contents_pass s h.limits, (s.lists, (p4, all, (refl, refl))))))))
 

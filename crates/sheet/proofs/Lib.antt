@@ -10,4 +10,4 @@ pub mod Checked
 pub mod Proper
 pub mod Linking
 pub mod Names
-pub mod Written
+pub mod Located

@@ -1,8 +1,9 @@
--- The nodes that turn lines name, line by line.
-use Rattle.std.proofs.Common.{◌≡◌, ℕ, ◌+◌, ◌<◌, Bool, List, [], ◌∷◌, ◌++◌, map, length, get_or, take, Decides, sym, ap, ◌∙◌, subst, ⊎_elim}
-use Rattle.std.proofs.lemmas.List.{map-append, take_more}
+-- The nodes that turn lines name.
+use Rattle.std.proofs.Common.{◌≡◌, ℕ, ◌<◌, Bool, not, List, map, length, Decides, nat_eq, sym, ap, ◌∙◌, subst, inl, inr}
+use Rattle.std.specs.List.{list_any, range_with_len}
 use Rattle.lists.specs.Members.{Among}
-use Rattle.lists.proofs.Elements.{among_get_d, among_map, among_push_cases}
+use Rattle.lists.proofs.Chains.{any_map, any_same, lacks_decides}
+use Rattle.lists.proofs.Decisions.{among_number?, below?, not?}
 use Rattle.text.specs.declared.records.TurnLine.{TurnLine}
 use Rattle.sheet.specs.Judge.{Named}
 
@@ -10,19 +11,21 @@ use Rattle.sheet.specs.Judge.{Named}
 abbrev pub nodes_of : List TurnLine → List ℕ
 nodes_of ts = map (λ t. t.node.value) ts
 
-pub named_at : (ts : List TurnLine) (i v : ℕ) (t : TurnLine) → i < length ts → t ≡ get_or ts i t → t.node.value ≡ v → Among v (nodes_of ts)
-named_at ts i v t lt is e =
-    subst (λ (x : ℕ). Among x (nodes_of ts)) (ap (λ (s : TurnLine). s.node.value) (sym is) ∙ e) (among_map (λ s. s.node.value) (get_or ts i t) ts (among_get_d ts i t lt))
-
-pub named_more : (ts : List TurnLine) (i v : ℕ) (t : TurnLine) → i < length ts → t ≡ get_or ts i t → (Among v (nodes_of (take i ts)) → ⊥) → (t.node.value ≡ v → ⊥) → Among v (nodes_of (take (i + 1) ts)) → ⊥
-named_more ts i v t lt is none ne h =
-    let more : nodes_of (take (i + 1) ts) ≡ nodes_of (take i ts) ++ (t.node.value ∷ []) =
-    ap nodes_of (take_more ts i t lt ∙ ap (λ (s : TurnLine). take i ts ++ (s ∷ [])) (sym is)) ∙ map-append (λ s. s.node.value) (take i ts) (t ∷ []) in
-    ⊎_elim none (λ e. ne (sym e)) (among_push_cases v (nodes_of (take i ts)) t.node.value (subst (Among v) more h))
-
 -- there are turn lines, and they do not name every node
 abbrev pub Missed : ℕ → List TurnLine → Type 0
 Missed n ts = (0 < length ts) × (Named n ts → ⊥)
+
+-- where there are turn lines, whether they lack a node
+pub missed_decides : (ts : List TurnLine) (n : ℕ) (r : Bool) → r ≡ list_any (λ v. not (list_any (λ t. nat_eq t.node.value v) ts)) (range_with_len 0 n) → 0 < length ts → Decides r (Missed n ts)
+missed_decides ts n r is some =
+    let same : r ≡ list_any (λ v. not (list_any (λ y. nat_eq y v) (nodes_of ts))) (range_with_len 0 n) = is ∙ any_same _ _ (range_with_len 0 n) (λ v. ap not (any_map (λ t. t.node.value) (λ y. nat_eq y v) ts)) in
+    let d = lacks_decides n (nodes_of ts) in (
+      (λ e. let t = d.0 (sym same ∙ e) in (some, λ all. t.2 (all t.0 t.1))),
+      λ m. same ∙ elim (below? (λ v. Among v (nodes_of ts) → ⊥) (λ v. not? (among_number? v (nodes_of ts))) n) [
+        | inl t ↦ d.1 t
+        | inr none ↦ absurd (m.1 (λ v l. elim (among_number? v (nodes_of ts)) [ inl a ↦ a | inr out ↦ absurd (none (v, l, out)) ]))
+      ],
+    )
 
 pub told_missed : (r : Bool) (n m : ℕ) (ts us : List TurnLine) → n ≡ m → ts ≡ us → Decides r (Missed n ts) → Decides r (Missed m us)
 told_missed r n m ts us e f h = subst (λ (k : ℕ). Decides r (Missed k us)) e (subst (λ (xs : List TurnLine). Decides r (Missed n xs)) f h)

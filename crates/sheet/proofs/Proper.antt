@@ -1,18 +1,16 @@
 -- Sheets that no check of the writer refuses, and how they are written.
-use Rattle.std.proofs.Common.{◌≡◌, ℕ, ◌+◌, ◌<◌, ◌≤◌, List, ◌++◌, length, take, drop, Ok, Err, Result, sym, refl, ap, ◌∙◌, subst, inl, inr, append_assoc, arith, length-append}
+use Rattle.std.proofs.Common.{◌≡◌, ℕ, ◌+◌, ◌<◌, ◌≤◌, List, length, take, drop, Some, None, Option, Ok, Err, Result, sym, refl, ap, ◌∙◌, subst, inl, inr, arith}
+use Rattle.std.specs.Option.{ok_or}
 use Rattle.std.proofs.lemmas.List.{take_at}
 use Rattle.refusal.specs.declared.Refusal.TheVariants.{Limit, Short}
-use Rattle.text.specs.Lines.{contents_bytes}
 use Rattle.text.specs.Page.{put}
-use Rattle.text.specs.declared.contents.ContentsLine.{ContentsLine}
-use Rattle.text.proofs.Pages.{put_put}
+use Rattle.text.specs.Page.{Wrote as WroteBytes}
 use Rattle.sheet.specs.declared.contents.Contents.{Contents}
 use Rattle.sheet.specs.declared.fault.SheetFault.{SheetFault}
 use Rattle.sheet.specs.declared.fault.SheetFault.TheVariants.{Refused}
-use Rattle.sheet.specs.Body.{written}
 use Rattle.sheet.specs.Checking.{ContentsChecked, Counts, LinesChecked, SheetChecked}
-use Rattle.sheet.specs.Judge.{Lists, Sheet, start}
-use Rattle.sheet.specs.Sheets.{Proper, Returns, Room, Within, Wrote, body_bytes, front, gives, heads, sheet_bytes}
+use Rattle.sheet.specs.Judge.{Declines, Lists, Sheet, start}
+use Rattle.sheet.specs.Sheets.{Proper, Returns, Room, Within, Wrote, body_bytes, gives, sheet_bytes}
 use Rattle.sheet.proofs.Exactly.{after_contents, back, contents_pass}
 use Rattle.sheet.proofs.Outcomes.{contents_stop, lines_stop, too_large}
 
@@ -39,24 +37,6 @@ module _ (ns : Contents) (l : Lists) where
   sheet_at_lines (Err e) w c h = λ small.
       lines_stop (sheet_bytes s) (λ (over : 65536 < length (sheet_bytes s)). omega arith) (start (sheet_bytes s)) refl ns (after_contents l) e (contents_pass s w) h
 
--- four parts put one after the other
-pub four_puts :
-    (a b c : ℕ) (hs ls fs ts page p q r t : List ℕ) → length (hs ++ (ls ++ (fs ++ ts))) ≤ length page → a ≡ 0 + length hs → b ≡ a + length ls → c ≡ b + length fs
-    → p ≡ put 0 hs page → q ≡ put a ls p → r ≡ put b fs q → t ≡ put c ts r → t ≡ put 0 (hs ++ (ls ++ (fs ++ ts))) page
-four_puts a b c hs ls fs ts page p q r t fits ea eb ec ep eq er et =
-    let n3 = length-append fs ts in
-    let n2 = length-append ls (fs ++ ts) in
-    let n1 = length-append hs (ls ++ (fs ++ ts)) in
-    let m2 = length-append hs ls in
-    let m3 = length-append (hs ++ ls) fs in
-    let q' : q ≡ put 0 (hs ++ ls) page = eq ∙ ap (λ (x : List ℕ). put a ls x) ep ∙ put_put 0 a hs ls page ea (omega arith) in
-    let r' : r ≡ put 0 ((hs ++ ls) ++ fs) page = er ∙ ap (λ (x : List ℕ). put b fs x) q' ∙ put_put 0 b (hs ++ ls) fs page (omega arith) (omega arith) in
-    et ∙ ap (λ (x : List ℕ). put c ts x) r' ∙ put_put 0 c ((hs ++ ls) ++ fs) ts page (omega arith) (omega arith)
-    ∙ ap (λ (x : List ℕ). put 0 x page) (append_assoc (hs ++ ls) fs ts ∙ append_assoc hs ls (fs ++ ts))
-
-pub four_sizes : (hs ls fs ts : List ℕ) → length (hs ++ (ls ++ (fs ++ ts))) ≡ length hs + (length ls + (length fs + length ts))
-four_sizes hs ls fs ts = let c = length-append fs ts in let b = length-append ls (fs ++ ts) in let a = length-append hs (ls ++ (fs ++ ts)) in omega arith
-
 -- what was written at the start of a page reads back the same
 pub written_returns : (ns : Contents) (l : Lists) (n : ℕ) (page after : List ℕ) → Proper (gives ns l) → n ≡ length (sheet_bytes (gives ns l)) → after ≡ put 0 (sheet_bytes (gives ns l)) page → Returns ns l after (Ok n)
 written_returns ns l n page after p len is m r judged =
@@ -64,34 +44,30 @@ written_returns ns l n page after p len is m r judged =
     let whole : take n after ≡ bs = ap (λ (x : List ℕ). take n x) is ∙ take_at bs (drop (0 + length bs) page) n (sym len) in
     back (take n after) m r judged (gives ns l) p whole
 
--- the parts of the writer together: hs are the contents lines, f the lists' first entries
-module _ (ns : Contents) (l f : Lists) (hs : List ContentsLine) (same : f ≡ front ns l) (head : hs ≡ heads ns) (room : Room l) where
-  bytes_are : written contents_bytes hs ++ body_bytes f ≡ sheet_bytes (gives ns l)
-  bytes_are = ap (λ (xs : List ContentsLine). written contents_bytes xs ++ body_bytes f) head ∙ ap (λ (g : Lists). written contents_bytes (heads ns) ++ body_bytes g) same
+-- the parts of the writer together: s is the sheet of the lists' first entries
+module _ (ns : Contents) (l : Lists) (s : Sheet) (same : s ≡ gives ns l) (room : Room l) (page : List ℕ) where
+  pub wrote_large : 65536 < length (sheet_bytes s) → Wrote ns l page (Err (Refused Limit 0)) page
+  wrote_large over = (refl, inr (inl (room, too_large (sheet_bytes (gives ns l)) (subst (λ (x : Sheet). 65536 < length (sheet_bytes x)) same over))))
 
-  module _ (size : ℕ) (sized : size ≡ length (written contents_bytes hs ++ body_bytes f)) (page : List ℕ) where
-    size_is : size ≡ length (sheet_bytes (gives ns l))
-    size_is = sized ∙ ap length bytes_are
+  module _ (small : length (sheet_bytes s) ≤ 65536) where
+    pub wrote_declined : (e : SheetFault) → SheetChecked s (Err e) → Wrote ns l page (Err e) page
+    wrote_declined e h = (refl, inr (inl (room, subst (λ (x : Sheet). Declines (sheet_bytes x) e) same (h small))))
 
-    pub wrote_large : 65536 < size → Wrote ns l page (Err (Refused Limit 0)) page
-    wrote_large over = (refl, inr (inl (room, too_large (sheet_bytes (gives ns l)) (subst (λ (k : ℕ). 65536 < k) size_is over))))
+    module _ (checked : SheetChecked s (Ok tt)) where
+      proper : Proper (gives ns l)
+      proper = subst Proper same (checked small)
 
-    small : size ≤ 65536 → length (sheet_bytes (gives ns l)) ≤ 65536
-    small le = subst (λ (k : ℕ). k ≤ 65536) size_is le
+      pub wrote_narrow : length page < length (sheet_bytes s) → Wrote ns l page (Err (Refused Short 0)) page
+      wrote_narrow few = (refl, inr (inr (room, proper, subst (λ (x : Sheet). length page < length (sheet_bytes x)) same few, refl)))
 
-    checked : (r : Result (Unit {0}) SheetFault) → SheetChecked (record { contents = ns; lists = f }) r → SheetChecked (gives ns l) r
-    checked r h = subst (λ (g : Lists). SheetChecked (record { contents = ns; lists = g }) r) same h
+      wrote_all : (n : ℕ) (after : List ℕ) → WroteBytes (sheet_bytes s) 0 page (Some n) after → Wrote ns l page (Ok n) after × Returns ns l after (Ok n)
+      wrote_all n after h =
+          let w : WroteBytes (sheet_bytes (gives ns l)) 0 page (Some n) after = subst (λ (x : Sheet). WroteBytes (sheet_bytes x) 0 page (Some n) after) same h in
+          let fits = w.0 in
+          let n-is = w.1 in
+          ((room, proper, omega arith, omega arith, w.2), written_returns ns l n page after proper (omega arith) w.2)
 
-    pub wrote_declined : (e : SheetFault) → size ≤ 65536 → SheetChecked (record { contents = ns; lists = f }) (Err e) → Wrote ns l page (Err e) page
-    wrote_declined e le h = (refl, inr (inl (room, checked (Err e) h (small le))))
-
-    pub wrote_narrow : size ≤ 65536 → length page < size → SheetChecked (record { contents = ns; lists = f }) (Ok tt) → Wrote ns l page (Err (Refused Short 0)) page
-    wrote_narrow le few h = (refl, inr (inr (room, checked (Ok tt) h (small le), subst (λ (k : ℕ). length page < k) size_is few, refl)))
-
-    pub wrote_all : (n : ℕ) (after : List ℕ) → size ≤ 65536 → size ≤ length page → SheetChecked (record { contents = ns; lists = f }) (Ok tt) → n ≡ length (written contents_bytes hs ++ body_bytes f)
-        → after ≡ put 0 (written contents_bytes hs ++ body_bytes f) page → Wrote ns l page (Ok n) after × Returns ns l after (Ok n)
-    wrote_all n after le fits h len is =
-        let proper = checked (Ok tt) h (small le) in
-        let n-is = len ∙ ap length bytes_are in
-        let put_is = is ∙ ap (λ (bs : List ℕ). put 0 bs page) bytes_are in
-        ((room, proper, n-is, omega arith, put_is), written_returns ns l n page after proper n-is put_is)
+      -- the page has room, so it is written
+      pub wrote_end : (r : Option ℕ) (after : List ℕ) (f : SheetFault) → length (sheet_bytes s) ≤ length page → WroteBytes (sheet_bytes s) 0 page r after → Wrote ns l page (ok_or r f) after × Returns ns l after (ok_or r f)
+      wrote_end (Some n) after f room h = wrote_all n after h
+      wrote_end None after f room h = let over = h.0 in absurd (omega arith)

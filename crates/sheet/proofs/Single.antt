@@ -8,7 +8,9 @@ use Rattle.refusal.specs.declared.Refusal.{Refusal}
 use Rattle.sheet.specs.declared.fault.SheetFault.{SheetFault}
 use Rattle.sheet.specs.declared.fault.SheetFault.TheVariants.{Scan, Refused}
 use Rattle.refusal.specs.Checks.{Checks, First, Free}
-use Rattle.sheet.specs.Body.{Rules, Good, Refuses, Body, Out, passed, refused, written}
+use Rattle.sheet.specs.Body.{Rules, Good, Refuses, Body, Out, passed, refused}
+use Rattle.text.specs.Written.{lines_of}
+use Rattle.text.proofs.Written.{lines_head}
 use Rattle.sheet.specs.Judge.{and_then, give, refuse_if, ending}
 use Rattle.sheet.proofs.Forms.{Kind}
 
@@ -103,24 +105,21 @@ refuses_once {X} {bytes} kind rules k b q (Refused c l) (Refused d m) h g =
     let le : l ≡ m = h.0 ∙ sym g.0 in
     cc
 
-head_cut : {X : Type 0} (bytes : X → List ℕ) (x : X) (xs : List X) (r : List ℕ) → written bytes (x ∷ xs) ++ r ≡ bytes x ++ (10 ∷ (written bytes xs ++ r))
-head_cut bytes x xs r = append_assoc (bytes x ++ (10 ∷ [])) (written bytes xs) r ∙ append_assoc (bytes x) (10 ∷ []) (written bytes xs ++ r)
-
 -- two readings of one body stop at the same place
 same_front :
     {X : Type 0} {bytes : X → List ℕ} (kind : Kind bytes) (rules : Rules X) (k n m : ℕ) (b xs ys : List X) (q z : Spot)
-    → written bytes xs ++ q.rest ≡ written bytes ys ++ z.rest → Good rules k b xs → Good rules k b ys → m + length xs ≤ n → m + length ys ≤ n
+    → lines_of bytes xs ++ q.rest ≡ lines_of bytes ys ++ z.rest → Good rules k b xs → Good rules k b ys → m + length xs ≤ n → m + length ys ≤ n
     → (m + length xs ≡ n) ⊎ ((e : SheetFault) × Refuses bytes rules k (b ++ xs) q e) → (m + length ys ≡ n) ⊎ ((e : SheetFault) × Refuses bytes rules k (b ++ ys) z e)
     → (xs ≡ ys) × (q.rest ≡ z.rest)
 same_front kind rules k n m b [] [] q z t gx gy lx ly sx sy = (refl, t)
 same_front {X} {bytes} kind rules k n m b [] (y ∷ ys) q z t gx gy lx ly sx sy =
     absurd (⊎_elim (λ e. omega arith)
-    (λ e. clash kind rules k b q e.0 y (written bytes ys ++ z.rest) (subst (λ (w : List X). Refuses bytes rules k w q e.0) (append-nil b) e.1) (t ∙ head_cut bytes y ys z.rest) gy.0) sx)
+    (λ e. clash kind rules k b q e.0 y (lines_of bytes ys ++ z.rest) (subst (λ (w : List X). Refuses bytes rules k w q e.0) (append-nil b) e.1) (t ∙ lines_head bytes y ys z.rest) gy.0) sx)
 same_front {X} {bytes} kind rules k n m b (x ∷ xs) [] q z t gx gy lx ly sx sy =
     absurd (⊎_elim (λ e. omega arith)
-    (λ e. clash kind rules k b z e.0 x (written bytes xs ++ q.rest) (subst (λ (w : List X). Refuses bytes rules k w z e.0) (append-nil b) e.1) (sym t ∙ head_cut bytes x xs q.rest) gx.0) sy)
+    (λ e. clash kind rules k b z e.0 x (lines_of bytes xs ++ q.rest) (subst (λ (w : List X). Refuses bytes rules k w z e.0) (append-nil b) e.1) (sym t ∙ lines_head bytes x xs q.rest) gx.0) sy)
 same_front {X} {bytes} kind rules k n m b (x ∷ xs) (y ∷ ys) q z t gx gy lx ly sx sy =
-    let same = line_once kind x y (written bytes (x ∷ xs) ++ q.rest) (written bytes xs ++ q.rest) (written bytes ys ++ z.rest) (head_cut bytes x xs q.rest) (t ∙ head_cut bytes y ys z.rest) in
+    let same = line_once kind x y (lines_of bytes (x ∷ xs) ++ q.rest) (lines_of bytes xs ++ q.rest) (lines_of bytes ys ++ z.rest) (lines_head bytes x xs q.rest) (t ∙ lines_head bytes y ys z.rest) in
     let e : x ≡ y = same.0 in
     let more =
     same_front kind rules k n (m + 1) (b ++ (x ∷ [])) xs ys q z same.1 gx.1 (subst (λ (w : X). Good rules k (b ++ (w ∷ [])) ys) (sym e) gy.1) (omega arith) (omega arith)

@@ -1,8 +1,8 @@
 -- A body of lines of one kind: which lines stand from a place on, or the first that is refused and why.
 use Rattle.std.specs.Prelude.{◌≡◌, ℕ, ◌+◌, ◌<◌, List, [], ◌∷◌, ◌++◌, length, take, drop, Ok, Err, Result}
-use Rattle.std.specs.List.{flat_map}
 use Rattle.refusal.specs.Checks.{Checks, First, Free}
 use Rattle.text.specs.Spots.{Past, Spot, Takes, Why, spot}
+use Rattle.text.specs.Written.{lines_of}
 use Rattle.text.specs.declared.reader.Reader.{Reader}
 use Rattle.sheet.specs.declared.fault.SheetFault.{SheetFault}
 use Rattle.sheet.specs.declared.fault.SheetFault.TheVariants.{Scan, Refused}
@@ -16,13 +16,9 @@ abbrev pub Good : {X : Type 0} → Rules X → ℕ → List X → List X → Typ
 Good rules k before [] = Unit {0}
 Good rules k before (x ∷ xs) = Free (rules k before x) × Good rules k (before ++ (x ∷ [])) xs
 
--- lines as they are written, each with its line feed
-abbrev pub written : {X : Type 0} → (X → List ℕ) → List X → List ℕ
-written bytes xs = flat_map (λ x. bytes x ++ (10 ∷ [])) xs
-
 -- from one place to another stand just these lines, all of them good
 pub record Front {X : Type 0} (bytes : X → List ℕ) (rules : Rules X) (k : ℕ) (xs : List X) (p q : Spot) : Type 0 where
-  pub text : p.rest ≡ written bytes xs ++ q.rest
+  pub text : p.rest ≡ lines_of bytes xs ++ q.rest
   pub lines : q.line ≡ p.line + length xs
   pub good : Good rules k [] xs
 
@@ -61,4 +57,4 @@ BodyRead bytes rules k count p before (Err e) after z H =
 -- lines that stand after so many others and before any text are what reading them would find
 abbrev pub BodyChecked : {X : Type 0} → (X → List ℕ) → Rules X → ℕ → List X → ℕ → Result (Unit {0}) SheetFault → Type 0
 BodyChecked bytes rules k xs line (Ok u) = Good rules k [] xs
-BodyChecked bytes rules k xs line (Err e) = (more : List ℕ) → Body bytes rules k (length xs) (record { rest = written bytes xs ++ more; line = line }) (refused e)
+BodyChecked bytes rules k xs line (Err e) = (more : List ℕ) → Body bytes rules k (length xs) (record { rest = lines_of bytes xs ++ more; line = line }) (refused e)

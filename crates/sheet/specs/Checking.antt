@@ -7,14 +7,15 @@ use Rattle.text.specs.declared.records.LinkLine.{LinkLine}
 use Rattle.text.specs.declared.records.TurnLine.{TurnLine}
 use Rattle.sheet.specs.declared.contents.Contents.{Contents}
 use Rattle.sheet.specs.declared.fault.SheetFault.{SheetFault}
-use Rattle.sheet.specs.Body.{Good, refused, written}
+use Rattle.sheet.specs.Body.{Good, refused}
+use Rattle.text.specs.Written.{lines_of}
 use Rattle.sheet.specs.Judge.{Declines, Lists, Named, Sheet, contents, link_lines, lines, places, turn_lines}
 use Rattle.sheet.specs.Kinds.{fault_rules, link_rules, site_of, turn_rules}
 use Rattle.sheet.specs.Sheets.{Proper, Within, body_bytes, heads, sheet_bytes}
 
 -- the place where lines stand, after so many others and before any text
 abbrev pub ahead : {X : Type 0} → (X → List ℕ) → List X → ℕ → List ℕ → Spot
-ahead bytes xs line more = record { rest = written bytes xs ++ more; line = line }
+ahead bytes xs line more = record { rest = lines_of bytes xs ++ more; line = line }
 
 -- the contents numbers
 abbrev pub ContentsChecked : Contents → Result (Unit {0}) SheetFault → Type 0

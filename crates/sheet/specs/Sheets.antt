@@ -1,5 +1,6 @@
 -- Whole sheets: how one is written, and what the calls that read and write one answer and leave.
 use Rattle.std.specs.Prelude.{◌≡◌, ℕ, ◌<◌, ◌≤◌, ◌⊎◌, List, [], ◌∷◌, ◌++◌, length, take, Ok, Err, Option, Result, MatchOption, slice_index_or}
+use Rattle.std.specs.Borrow.{MutBor}
 use Rattle.refusal.specs.declared.Refusal.TheVariants.{Short}
 use Rattle.graph.specs.Model.{Reached}
 use Rattle.site.specs.declared.site.Site.{Site}
@@ -16,7 +17,10 @@ use Rattle.text.specs.declared.records.TurnLine.{TurnLine}
 use Rattle.sheet.specs.declared.fault.SheetFault.{SheetFault}
 use Rattle.sheet.specs.declared.fault.SheetFault.TheVariants.{Refused}
 use Rattle.sheet.specs.declared.contents.Contents.{Contents}
-use Rattle.sheet.specs.Body.{Good, Out, passed, refused, written}
+use Rattle.sheet.specs.declared.draft.Draft.{Draft}
+use Rattle.sheet.specs.declared.lent.Lists.{Lists as Lent}
+use Rattle.sheet.specs.Body.{Good, Out, passed, refused}
+use Rattle.text.specs.Written.{lines_of}
 use Rattle.text.specs.Lines.{contents_bytes, link_bytes, fault_bytes, turn_bytes}
 use Rattle.sheet.specs.Kinds.{link_rules, fault_rules, turn_rules, site_of}
 use Rattle.sheet.specs.Judge.{Lists, Sheet, Accepts, Declines, Named, places}
@@ -35,12 +39,23 @@ first (Err e) = Err e
 abbrev pub lists : List LinkLine → List FaultLine → List TurnLine → Lists
 lists ls fs ts = record { links = ls; faults = fs; turns = ts }
 
+-- the lists that a caller lends, and what a call that took them left behind
+abbrev pub given : Lent → Lists
+given l = lists l.links.now l.faults.now l.turns.now
+
+abbrev pub left : MutBor (List LinkLine) × (MutBor (List FaultLine) × (MutBor (List TurnLine) × Unit {0})) → Lists
+left l = lists l.0.now l.1.0.now l.1.1.0.now
+
 -- the sheet that contents numbers and the first entries of the lists make
 abbrev pub front : Contents → Lists → Lists
 front ns l = record { links = take ns.links.value l.links; faults = take ns.faults.value l.faults; turns = take ns.turns.value l.turns }
 
 abbrev pub gives : Contents → Lists → Sheet
 gives ns l = record { contents = ns; lists = front ns l }
+
+-- the contents and all entries of a draft
+abbrev pub drafted : Draft → Sheet
+drafted d = record { contents = d.contents; lists = lists d.links.now d.faults.now d.turns.now }
 
 -- the contents lines of these numbers
 abbrev pub heads : Contents → List ContentsLine
@@ -50,10 +65,10 @@ heads ns =
 
 -- a sheet as it is written: the contents, the links, the faults, the turns
 abbrev pub body_bytes : Lists → List ℕ
-body_bytes l = written link_bytes l.links ++ (written fault_bytes l.faults ++ written turn_bytes l.turns)
+body_bytes l = lines_of link_bytes l.links ++ (lines_of fault_bytes l.faults ++ lines_of turn_bytes l.turns)
 
 abbrev pub sheet_bytes : Sheet → List ℕ
-sheet_bytes s = written contents_bytes (heads s.contents) ++ body_bytes s.lists
+sheet_bytes s = lines_of contents_bytes (heads s.contents) ++ body_bytes s.lists
 
 -- each lent list has its limit's entries
 abbrev pub Room : Lists → Type 0

@@ -1,10 +1,11 @@
+//! Bodies of lines of one kind, read into a list, or checked as reading would check them.
 ghost use Rattle.std.specs.Prelude.{◌≡◌, ℕ, ◌+◌, ◌<◌, ◌≤◌, List, [], length, Err, OnOk};
 ghost use Rattle.refusal.specs.declared.Refusal.TheVariants.{Short};
 ghost use Rattle.text.specs.Spots.{spot};
 ghost use Rattle.sheet.specs.Body.{BodyChecked, BodyRead};
 ghost use Rattle.sheet.specs.declared.fault.SheetFault.TheVariants.{Refused};
 
-use crate::fault::SheetFault;
+use crate::fault::{SheetFault, at_line};
 use crate::line::SheetLine;
 use refusal::Refusal;
 use text::reader::Reader;
@@ -21,15 +22,13 @@ pub fn read_body<R: SheetLine>(
     ensures read { count ≤ length list.old → (k : ℕ) → R.SheetLine.Holds into.old k [] → BodyRead R.WriteLine.bytes R.SheetLine.checks k count (spot rd.old) list.old result list.new (spot rd.new) (R.SheetLine.Holds into.new k) }
 {
     if list.len() < count {
-        return Err(SheetFault::Refused(Refusal::Short, 0));
+        return Err(SheetFault::from(Refusal::Short));
     }
-    for i in 0..count {
-        let x: R = rd.read()?;
+    for entry in &mut list[..count] {
+        let line: R = rd.read()?;
         let n = rd.lines();
-        match x.enter(into) {
-            Ok(_) => list[i] = x,
-            Err(e) => return Err(SheetFault::Refused(e, n)),
-        }
+        at_line(line.enter(into), n)?;
+        *entry = line;
     }
     Ok(())
 }
@@ -44,11 +43,9 @@ pub(crate) fn check_body<R: SheetLine>(
     ensures checked { (k : ℕ) → R.SheetLine.Holds into.old k [] → BodyChecked R.WriteLine.bytes R.SheetLine.checks k list.now line result }
     ensures held { (k : ℕ) → R.SheetLine.Holds into.old k [] → OnOk result (R.SheetLine.Holds into.new k list.now) }
 {
+    // The number of the line is told, so it is counted.
     for (i, x) in list.iter().enumerate() {
-        match x.enter(into) {
-            Ok(_) => {}
-            Err(e) => return Err(SheetFault::Refused(e, line + i + 1)),
-        }
+        at_line(x.enter(into), line + i + 1)?;
     }
     Ok(())
 }

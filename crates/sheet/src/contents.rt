@@ -1,3 +1,9 @@
+//! The numbers that a sheet begins with.
+ghost use Rattle.std.specs.Prelude.{◌≡◌};
+ghost use Rattle.sheet.specs.Judge.{places};
+ghost use Rattle.sheet.specs.Sheets.{heads};
+
+use text::contents::{ContentsLine, Word};
 use text::number::Number;
 
 /// The numbers of a sheet's contents.
@@ -11,4 +17,32 @@ pub struct Contents {
     pub faults: Number,
     /// How many turn lines end the sheet; none means round robin.
     pub turns: Number,
+}
+
+// A contents line.
+fn head(word: Word, number: Number) -> ContentsLine
+    ensures { result ≡ record { word = word; number = number } }
+{
+    ContentsLine { word, number }
+}
+
+impl Contents {
+    // The contents lines.
+    pub(crate) fn heads(self) -> [ContentsLine; 4]
+        ensures { result ≡ heads self }
+    {
+        [
+            head(Word::Nodes, self.nodes),
+            head(Word::Links, self.links),
+            head(Word::Faults, self.faults),
+            head(Word::Turns, self.turns),
+        ]
+    }
+
+    // How many registers the program's stack of protocols has at the site.
+    pub(crate) fn registers(self) -> u32
+        ensures { result ≡ places self }
+    {
+        5 * self.nodes.get() + 2 * self.links.get()
+    }
 }

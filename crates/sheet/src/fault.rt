@@ -1,6 +1,7 @@
+//! Why a sheet is declined.
 ghost use Rattle.std.specs.Prelude.{◌≡◌};
-ghost use Rattle.sheet.specs.Faults.{cause_of, line_of};
-ghost use Rattle.sheet.specs.declared.fault.SheetFault.TheVariants.{Scan};
+ghost use Rattle.sheet.specs.Faults.{cause_of, line_of, located};
+ghost use Rattle.sheet.specs.declared.fault.SheetFault.TheVariants.{Scan, Refused};
 
 use refusal::Refusal;
 use text::fault::ScanFault;
@@ -42,4 +43,20 @@ impl From<ScanFault> for SheetFault {
     fn from(e: ScanFault) -> SheetFault {
         SheetFault::Scan(e)
     }
+}
+
+/// A refusal of the whole sheet.
+impl From<Refusal> for SheetFault {
+    ghost from_gives = { λ e f. f ≡ Refused e 0 };
+
+    fn from(e: Refusal) -> SheetFault {
+        SheetFault::Refused(e, 0)
+    }
+}
+
+// What a check at a line comes to, as a sheet's outcome.
+pub(crate) fn at_line<T>(outcome: Result<T, Refusal>, line: usize) -> Result<T, SheetFault>
+    ensures { result ≡ located outcome line }
+{
+    outcome.map_err(|e| SheetFault::Refused(e, line))
 }

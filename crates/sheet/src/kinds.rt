@@ -1,10 +1,13 @@
-ghost use Rattle.std.specs.Prelude.{◌≡◌, length};
+//! The kinds of lines, each with its checks and with what these go by.
+ghost use Rattle.std.specs.Prelude.{◌≡◌, false, length};
 ghost use Rattle.site.specs.Sites.{draft};
 ghost use Rattle.sheet.specs.Kinds.{contents_rules, fault_rules, least, link_rules, most, order, site_of, turn_rules};
 
 use crate::line::SheetLine;
 use refusal::Refusal;
+use refusal::limits::VALUE;
 use site::builder::SiteBuilder;
+use std::ops::RangeInclusive;
 use text::contents::{ContentsLine, Word};
 use text::records::{FaultLine, LinkLine, TurnLine};
 
@@ -23,49 +26,15 @@ impl Progress {
     }
 }
 
-/// The number of registers that a fault line may name.
-#[derive(Clone, Copy)]
-pub struct Registers {
-    pub count: u32,
-}
-
-/// The number of nodes that a turn line may name.
-#[derive(Clone, Copy)]
-pub struct Nodes {
-    pub count: u32,
-}
-
-// the place of a word among the contents
-fn rank(w: Word) -> u32
-    ensures { result ≡ order w }
+// the numbers that may follow a word
+fn limits(word: Word) -> RangeInclusive<u32>
+    ensures { result ≡ record { start = least word; end = most word; exhausted = false } }
 {
-    match w {
-        Word::Nodes => 0,
-        Word::Links => 1,
-        Word::Faults => 2,
-        Word::Turns => 3,
-    }
-}
-
-// the least number that may follow a word
-fn low(w: Word) -> u32
-    ensures { result ≡ least w }
-{
-    match w {
-        Word::Nodes => 1,
-        _ => 0,
-    }
-}
-
-// the greatest number that may follow a word
-fn high(w: Word) -> u32
-    ensures { result ≡ most w }
-{
-    match w {
-        Word::Nodes => 256,
-        Word::Links => 1024,
-        Word::Faults => 4096,
-        Word::Turns => 1024,
+    match word {
+        Word::Nodes => 1..=256,
+        Word::Links => 0..=1024,
+        Word::Faults => 0..=4096,
+        Word::Turns => 0..=1024,
     }
 }
 
@@ -77,14 +46,13 @@ impl SheetLine for ContentsLine {
     ghost Holds = { λ c k before. c.lines ≡ length before };
 
     fn enter(self, into: &mut Progress) -> Result<(), Refusal> {
-        let n = self.number.get();
-        if rank(self.word) != into.lines {
+        if self.word as u32 != into.lines {
             return Err(Refusal::Form);
         }
-        if n < low(self.word) || n > high(self.word) {
+        if !limits(self.word).contains(&self.number.get()) {
             return Err(Refusal::Limit);
         }
-        into.lines = rank(self.word) + 1;
+        into.lines += 1;
         Ok(())
     }
 }
@@ -101,33 +69,35 @@ impl SheetLine for LinkLine {
     }
 }
 
+/// A fault goes by the number of registers.
 impl SheetLine for FaultLine {
-    type Context = Registers;
+    type Context = u32;
 
     ghost checks = { fault_rules };
 
-    ghost Holds = { λ c k before. c.count ≡ k };
+    ghost Holds = { λ registers k before. registers ≡ k };
 
-    fn enter(self, into: &mut Registers) -> Result<(), Refusal> {
-        if self.value.get() > 65535 {
+    fn enter(self, registers: &mut u32) -> Result<(), Refusal> {
+        if self.value.get() > VALUE {
             return Err(Refusal::Limit);
         }
-        if self.register.get() >= into.count {
+        if self.register.get() >= *registers {
             return Err(Refusal::Place);
         }
         Ok(())
     }
 }
 
+/// A turn goes by the number of nodes.
 impl SheetLine for TurnLine {
-    type Context = Nodes;
+    type Context = u32;
 
     ghost checks = { turn_rules };
 
-    ghost Holds = { λ c n before. c.count ≡ n };
+    ghost Holds = { λ nodes n before. nodes ≡ n };
 
-    fn enter(self, into: &mut Nodes) -> Result<(), Refusal> {
-        if self.node.get() >= into.count {
+    fn enter(self, nodes: &mut u32) -> Result<(), Refusal> {
+        if self.node.get() >= *nodes {
             return Err(Refusal::Node);
         }
         Ok(())

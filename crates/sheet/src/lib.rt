@@ -5,9 +5,11 @@
 pub mod body;
 mod check;
 pub mod contents;
+pub mod draft;
 pub mod fault;
 pub mod kinds;
+pub mod lent;
 pub mod line;
 pub mod read;
-pub mod stages;
+mod stages;
 pub mod write;

@@ -1,3 +1,4 @@
+//! A line of a sheet, with its checks.
 ghost use Rattle.std.specs.Prelude.{ℕ, List};
 ghost use Rattle.refusal.specs.Checks.{Checks};
 ghost use Rattle.sheet.specs.Entering.{Entered};

@@ -1,14 +1,15 @@
 -- What the calls of a protocol answer, and what they leave.
-use Rattle.std.specs.Prelude.{◌≡◌, ℕ, ◌<◌, ◌≤◌, Bool, true, false, List, Ok, Err, Result, ◌≢◌, slice_index, slice_set}
+use Rattle.std.specs.Prelude.{◌≡◌, ℕ, ◌<◌, ◌≤◌, Bool, List, Ok, Err, Result, slice_index, slice_set}
 use Rattle.refusal.specs.declared.Refusal.{Refusal}
 use Rattle.refusal.specs.declared.Refusal.TheVariants.{Place, Node}
 use Rattle.graph.specs.Model.{Model}
 use Rattle.protocol.specs.declared.Output.{Output}
 use Rattle.protocol.specs.Protocols.{Protocol, told_size}
+use Rattle.registers.specs.Lists.{Changed}
 
 -- a turn of a node does what the meaning says and tells whether a register changed; of no node, nothing changes
 abbrev pub Turned : Model → Protocol → ℕ → List ℕ → Result Bool Refusal → List ℕ → Type 0
-Turned m p v xs (Ok b) ys = (v < m.nodes) × (ys ≡ p.turn v xs) × (b ≡ true → ys ≢ xs) × (b ≡ false → ys ≡ xs)
+Turned m p v xs (Ok b) ys = (v < m.nodes) × (ys ≡ p.turn v xs) × Changed xs b ys
 Turned m p v xs (Err e) ys = (m.nodes ≤ v) × (e ≡ Node) × (ys ≡ xs)
 
 -- the register at a place becomes x and no other changes; a place past the last changes nothing

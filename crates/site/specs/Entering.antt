@@ -1,12 +1,12 @@
 -- What the calls that build a site answer: the checks in their order, and what each outcome leaves.
-use Rattle.std.specs.Prelude.{◌≡◌, ℕ, ◌<◌, ◌≤◌, ◌⊎◌, List, [], ◌∷◌, ◌++◌, length, Some, None, Ok, Err, Option, Result}
+use Rattle.std.specs.Prelude.{◌≡◌, ℕ, ◌<◌, ◌≤◌, ◌⊎◌, List, [], ◌∷◌, ◌++◌, length, Ok, Err, Result}
 use Rattle.refusal.specs.declared.Refusal.{Refusal}
 use Rattle.refusal.specs.declared.Refusal.TheVariants as refusal
-use Rattle.refusal.specs.Checks.{Checks, First, Free}
+use Rattle.refusal.specs.declared.fault.Fault.{Fault}
+use Rattle.refusal.specs.declared.fault.Fault.TheVariants.{Refused, Memory}
+use Rattle.refusal.specs.Checks.{Checks, First, Free, Judged, Made}
 use Rattle.lists.specs.Members.{Among}
 use Rattle.graph.specs.Model.{Model, ports, Reached, Proper}
-use Rattle.site.specs.declared.fault.BuildFault.{BuildFault}
-use Rattle.site.specs.declared.fault.BuildFault.TheVariants as fault
 use Rattle.site.specs.declared.builder.SiteBuilder.{SiteBuilder}
 use Rattle.site.specs.declared.site.Site.{Site}
 use Rattle.site.specs.Sites.{draft, model}
@@ -31,27 +31,13 @@ bare n r = record { nodes = n; root = r; links = [] }
 abbrev pub with_link : Model → ℕ → ℕ → Model
 with_link m a b = record { nodes = m.nodes; root = m.root; links = m.links ++ ((a, b) ∷ []) }
 
--- the first check that fails, if one does
-abbrev pub Checked : Checks → Option Refusal → Type 0
-Checked cs None = Free cs
-Checked cs (Some e) = First cs e
-
 -- a builder was made
-abbrev pub Begun : ℕ → ℕ → Result SiteBuilder BuildFault → Type 0
-Begun n r (Ok b) = Free (size_checks n r) × (draft b ≡ bare n r)
-Begun n r (Err (fault.Refused e)) = First (size_checks n r) e
-Begun n r (Err fault.Memory) = Free (size_checks n r)
-
--- no fault but want of memory
-abbrev pub OnlyMemory : {A : Type 0} → Result A BuildFault → Type 0
-OnlyMemory (Ok a) = Unit {0}
-OnlyMemory (Err (fault.Refused e)) = ⊥
-OnlyMemory (Err fault.Memory) = Unit {0}
+abbrev pub Begun : ℕ → ℕ → Result SiteBuilder Fault → Type 0
+Begun n r = Made (size_checks n r) (λ b. draft b ≡ bare n r)
 
 -- a builder was started in memory that was had before
 abbrev pub Started : ℕ → ℕ → Result SiteBuilder Refusal → Type 0
-Started n r (Ok b) = Free (size_checks n r) × (draft b ≡ bare n r)
-Started n r (Err e) = First (size_checks n r) e
+Started n r = Judged (size_checks n r) (λ b. draft b ≡ bare n r)
 
 -- a link was entered, or declined and nothing changed: the draft before, the link, the answer, the draft after
 abbrev pub Entered : Model → ℕ → ℕ → Result (Unit {0}) Refusal → Model → Type 0
@@ -78,9 +64,9 @@ abbrev pub whole : ℕ → ℕ → List (ℕ × ℕ) → Model
 whole n r ls = record { nodes = n; root = r; links = ls }
 
 -- a site was built of a whole list of links, or the first refusal came, or memory was wanting
-abbrev pub Built : ℕ → ℕ → List (ℕ × ℕ) → Result Site BuildFault → Type 0
+abbrev pub Built : ℕ → ℕ → List (ℕ × ℕ) → Result Site Fault → Type 0
 Built n r ls (Ok s) = Free (size_checks n r) × AllFree (bare n r) ls × (model s ≡ whole n r ls) × Proper (whole n r ls)
-Built n r ls (Err (fault.Refused e)) =
+Built n r ls (Err (Refused e)) =
     First (size_checks n r) e
     ⊎ (Free (size_checks n r) × (FirstOf (bare n r) ls e ⊎ (AllFree (bare n r) ls × (e ≡ refusal.Unreached) × (Reached (whole n r ls) → ⊥))))
-Built n r ls (Err fault.Memory) = Free (size_checks n r)
+Built n r ls (Err Memory) = Free (size_checks n r)

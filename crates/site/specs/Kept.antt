@@ -1,22 +1,20 @@
 -- What a builder and a site keep between calls, as facts of their fields.
-use Rattle.std.specs.Prelude.{◌≡◌, ℕ, ◌<◌, List, slice_index}
-use Rattle.graph.specs.Model.{Model, arcs_before, distance, height}
+use Rattle.std.specs.Prelude.{◌≡◌, ℕ, ◌<◌, List, None, Some}
+use Rattle.graph.specs.Model.{Model, ports, arcs_before, distance, height}
+use Rattle.site.specs.declared.node.Node.{Node}
+use Rattle.site.specs.Table.{entry, made}
 
--- stands for the distance of a node that is not reached
-abbrev pub far : ℕ
-far = 65535
+-- the table has this entry for each node of the model
+abbrev pub Table : (Model → ℕ → Node) → Model → List Node → Type 0
+Table e m ns = (v : ℕ) → v < m.nodes → entry ns v ≡ e m v
 
--- the list says of each of the n nodes that it is not reached yet
-abbrev pub Unvisited : ℕ → List ℕ → Type 0
-Unvisited n ds = (v : ℕ) → v < n → slice_index ds v ≡ far
+-- a node's entry while links are entered: its ports, and no more yet
+abbrev pub ported : Model → ℕ → Node
+ported m v = made (ports m v) 0 None
 
--- the list has, for each node, how many arcs stand before its own
-abbrev pub Numbered : Model → List ℕ → Type 0
-Numbered m ns = (v : ℕ) → v < m.nodes → slice_index ns v ≡ arcs_before m v
-
--- the list has the distance of each node
-abbrev pub Measured : Model → List ℕ → Type 0
-Measured m ds = (v : ℕ) → v < m.nodes → slice_index ds v ≡ distance m v
+-- a node's entry at the end: its ports, the number of the arcs before its own, its distance
+abbrev pub filled : Model → ℕ → Node
+filled m v = made (ports m v) (arcs_before m v) (Some (distance m v))
 
 -- h is the greatest distance, as a function
 abbrev pub Highest : Model → ℕ → Type 0

@@ -4,14 +4,14 @@ ghost use Rattle.site.specs.Entering.{Built};
 ghost use Rattle.site.specs.Table.{ends};
 
 use crate::builder::SiteBuilder;
-use crate::fault::BuildFault;
 use crate::link::Link;
 use crate::site::Site;
+use refusal::fault::Fault;
 use std::alloc::Global;
 
 /// A site of so many nodes with this root and these links. Declines as `SiteBuilder::new`, then as
 /// `SiteBuilder::enter` at the first link that is declined, then with `Unreached` if a node is out of reach.
-pub fn build(heap: Global, nodes: usize, root: usize, links: &[Link]) -> Result<Site, BuildFault>
+pub fn build(heap: Global, nodes: usize, root: usize, links: &[Link]) -> Result<Site, Fault>
     ensures { Built nodes root (map ends links.now) result }
 {
     let mut builder = SiteBuilder::new(heap, nodes, root)?;

@@ -1,38 +1,47 @@
 //! Distances level by level from the root, and the numbers of arcs.
-ghost use Rattle.std.specs.Prelude.{◌≡◌, ℕ, ◌<◌, ◌≤◌, length, nat_le, slice_index};
-ghost use Rattle.lists.specs.Members.{Among};
-ghost use Rattle.graph.specs.Model.{any};
-ghost use Rattle.site.specs.Levels.{Counted, Searched, Sound, Spread};
-ghost use Rattle.site.specs.Table.{neighbours};
+ghost use Rattle.std.specs.Prelude.{◌≡◌, ◌<◌, ◌≤◌, length};
+ghost use Rattle.std.specs.List.{list_any};
+ghost use Rattle.site.specs.Levels.{Counted, Searched, Spread, Surveyed, Tallest, near, next};
+ghost use Rattle.site.specs.Table.{entry};
 
-use crate::limits::FAR;
 use crate::node::Node;
 
-/// Whether a neighbour stands at the level or nearer.
-fn touches(node: &Node, distances: &[u16], level: u16) -> bool
-    requires degree_bound { node.now.degree ≤ 8 }
-    requires by_index { (u : ℕ) → Among u (neighbours node.now) → u < length distances.now }
-    ensures { result ≡ any (λ u. nat_le (slice_index distances.now u) level) (neighbours node.now) }
+/// Whether there is such a node and it is reached, at the level or nearer.
+fn is_near(nodes: &[Node], v: u16, level: u16) -> bool
+    ensures { result ≡ near level (entry nodes.now v) }
 {
-    for u in node.ports() {
-        if distances[*u as usize] <= level {
-            return true;
-        }
-    }
-    false
+    nodes
+        .get(v as usize)
+        .and_then(|node| node.distance)
+        .is_some_and(|distance| distance <= level)
 }
 
-/// Marks each node that is not reached yet and has a neighbour at the level; whether there was one.
-fn spread(nodes: &[Node], distances: &mut [u16], level: u16) -> bool
-    requires distances_len { length distances.old ≡ length nodes.now }
-    requires sound { Sound nodes.now (length nodes.now) }
-    requires level_bound { level < 256 }
-    ensures { Spread nodes.now level distances.old result distances.new }
+/// Whether one of these nodes is reached, at the level or nearer.
+fn is_any_near(nodes: &[Node], neighbours: &[u16], level: u16) -> bool
+    ensures { result ≡ list_any (λ u. near level (entry nodes.now u)) neighbours.now }
+{
+    neighbours.iter().any(|u| is_near(nodes, *u, level))
+}
+
+/// Whether a node is not reached yet and has a neighbour at the level or nearer.
+fn is_next(nodes: &[Node], v: usize, level: u16) -> bool
+    requires { v < length nodes.now }
+    ensures { result ≡ next level nodes.now v }
+{
+    let node = &nodes[v];
+    node.distance.is_none() && is_any_near(nodes, &node.ports, level)
+}
+
+/// Gives each node that is next its distance; whether there was one.
+fn spread(nodes: &mut [Node], level: u16) -> bool
+    requires { level < 256 }
+    ensures { Spread level nodes.old result nodes.new }
 {
     let mut grew = false;
+    // By number: each turn reads the entries of neighbours before it writes the node's own.
     for v in 0..nodes.len() {
-        if distances[v] == FAR && touches(&nodes[v], distances, level) {
-            distances[v] = level + 1;
+        if is_next(nodes, v, level) {
+            nodes[v].distance = Some(level + 1);
             grew = true;
         }
     }
@@ -40,43 +49,50 @@ fn spread(nodes: &[Node], distances: &mut [u16], level: u16) -> bool
 }
 
 /// Goes on from the root until a level adds no node.
-pub(crate) fn search(nodes: &[Node], distances: &mut [u16])
-    requires distances_len { length distances.old ≡ length nodes.now }
-    requires sound { Sound nodes.now (length nodes.now) }
-    requires nodes_len_bound { length nodes.now ≤ 256 }
-    ensures { Searched nodes.now distances.old distances.new }
+fn search(nodes: &mut [Node])
+    requires { length nodes.old ≤ 256 }
+    ensures { Searched nodes.old nodes.new }
 {
-    for level in 0..nodes.len() {
-        if !spread(nodes, distances, level as u16) {
+    // The levels are counted here, not the entries.
+    for level in 0..nodes.len() as u16 {
+        if !spread(nodes, level) {
             return;
         }
     }
 }
 
 /// Writes how many arcs stand before those of each node.
-pub(crate) fn number_arcs(nodes: &[Node], first_arcs: &mut [u16])
-    requires first_arcs_len { length first_arcs.old ≡ length nodes.now }
-    requires sound { Sound nodes.now (length nodes.now) }
-    requires nodes_len_bound { length nodes.now ≤ 256 }
-    ensures { Counted nodes.now first_arcs.new }
+fn number_arcs(nodes: &mut [Node])
+    requires { length nodes.old ≤ 256 }
+    ensures { Counted nodes.old nodes.new }
 {
     let mut total: u16 = 0;
-    for v in 0..nodes.len() {
-        first_arcs[v] = total;
-        total += nodes[v].degree() as u16;
+    for node in nodes.iter_mut() {
+        node.first_arc = total;
+        total += node.ports.len() as u16;
     }
 }
 
-/// The greatest of the marks.
-pub(crate) fn greatest(distances: &[u16]) -> u16
-    ensures most { (v : ℕ) → v < length distances.now → slice_index distances.now v ≤ result }
-    ensures taken { 0 < length distances.now → (v : ℕ) × (v < length distances.now) × (slice_index distances.now v ≡ result) }
+/// The greatest distance; none if a node is not reached.
+fn greatest(nodes: &[Node]) -> Option<u16>
+    ensures { Tallest nodes.now result }
 {
     let mut top: u16 = 0;
-    for d in distances {
-        if *d > top {
-            top = *d;
-        }
+    for node in nodes {
+        top = top.max(node.distance?);
     }
-    top
+    Some(top)
+}
+
+/// Writes the distance of each node that can be reached, and the numbers of the arcs. The greatest distance; none if a
+/// node cannot be reached.
+pub(crate) fn survey(nodes: &mut [Node], root: u16) -> Option<u16>
+    requires rooted { root < length nodes.old }
+    requires few { length nodes.old ≤ 256 }
+    ensures { Surveyed root nodes.old result nodes.new }
+{
+    nodes[root as usize].distance = Some(0);
+    search(nodes);
+    number_arcs(nodes);
+    greatest(nodes)
 }

@@ -4,10 +4,9 @@
 
 pub mod build;
 pub mod builder;
-pub mod fault;
 mod levels;
-pub mod limits;
 pub mod link;
 mod node;
 pub mod room;
 pub mod site;
+mod sizes;

@@ -1,12 +1,12 @@
 //! A node's entry in the table.
 
-use crate::limits::PORTS;
+use arrayvec::ArrayVec;
+use refusal::limits::PORTS;
 
-/// A node's ports: the first `degree` of `ports` are its neighbours, port by port.
-#[derive(Clone, Copy)]
+/// A node's entry: its neighbours, port by port, how many arcs stand before its own, and its distance once it is reached.
+#[derive(Clone, Default, Drop)]
 pub struct Node {
-    degree: u8,
-    ports: [u16; PORTS],
+    pub(crate) ports: ArrayVec<u16, PORTS>,
+    pub(crate) first_arc: u16,
+    pub(crate) distance: Option<u16>,
 }
-
-mod calls;

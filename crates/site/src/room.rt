@@ -1,13 +1,13 @@
 //! Memory for a site, had before it is wanted.
 ghost use Rattle.std.specs.Prelude.{◌≡◌, length};
-ghost use Rattle.site.specs.Entering.{OnlyMemory, Started};
+ghost use Rattle.site.specs.Entering.{Started};
 ghost use Rattle.site.specs.Sites.{draft};
 
 use crate::builder::SiteBuilder;
-use crate::fault::BuildFault;
-use crate::limits::NODES;
+use crate::sizes::check_size;
 use refusal::Refusal;
-use std::alloc::Global;
+use refusal::limits::NODES;
+use std::alloc::{AllocError, Global};
 
 /// Memory for one site of any size, so that building it never wants memory.
 #[derive(Drop)]
@@ -18,11 +18,9 @@ pub struct SiteRoom {
 }
 
 impl SiteRoom {
-    /// Memory for the largest site; want of it is the only fault.
-    pub fn new(heap: Global) -> Result<SiteRoom, BuildFault>
-        ensures { OnlyMemory result }
-    {
-        let builder = SiteBuilder::new(heap, NODES, 0)?;
+    /// Memory for the largest site.
+    pub fn new(heap: Global) -> Result<SiteRoom, AllocError> {
+        let builder = SiteBuilder::bare(heap, NODES, 0)?;
         Ok(SiteRoom { builder })
     }
 
@@ -31,13 +29,7 @@ impl SiteRoom {
     pub fn start(self, nodes: usize, root: usize) -> Result<SiteBuilder, Refusal>
         ensures { Started nodes root result }
     {
-        let SiteRoom { builder } = self;
-        if nodes < 1 || nodes > NODES {
-            return Err(Refusal::Limit);
-        }
-        if root >= nodes {
-            return Err(Refusal::Node);
-        }
-        Ok(builder.narrowed(nodes, root))
+        check_size(nodes, root)?;
+        Ok(self.builder.narrowed(nodes, root))
     }
 }

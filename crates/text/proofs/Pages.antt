@@ -1,7 +1,7 @@
 -- Bytes put onto a page one after the other.
-use Rattle.std.proofs.Common.{◌≡◌, ℕ, ◌+◌, ◌<◌, ◌≤◌, true, List, [], ◌∷◌, ◌++◌, length, take, drop, set, is_some, Some, None, Option, sym, refl, ap, ◌∙◌, append_assoc, add_assoc, add-one, arith, length-append, take-append-drop}
-use Rattle.std.proofs.lemmas.List.{take_at, drop_at, drop-drop, length-take-le, set_split}
-use Rattle.text.specs.Page.{Wrote, put}
+use Rattle.std.proofs.Common.{◌≡◌, ℕ, ◌+◌, ◌-◌, ◌<◌, ◌≤◌, List, [], ◌∷◌, ◌++◌, length, take, drop, set, Some, None, Option, sym, ap, ◌∙◌, append-nil, append_assoc, add_assoc, zero-add, add-one, arith, length-append, length-drop, take-append-drop}
+use Rattle.std.proofs.lemmas.List.{take_at, take_rest, drop_at, drop_all, drop-drop, length-take-le, set_split}
+use Rattle.text.specs.Page.{Wrote, over, put}
 
 -- the length up to the end of what was put
 front : (at : ℕ) (bs page : List ℕ) → at + length bs ≤ length page → length (take at page ++ bs) ≡ at + length bs
@@ -58,7 +58,33 @@ pub put_none : (at : ℕ) (bs page : List ℕ) → bs ≡ [] → put at bs page 
 put_none at bs page e =
     ap (λ (x : List ℕ). put at x page) e ∙ ap (λ (k : ℕ). take at page ++ drop k page) (omega arith) ∙ take-append-drop at page
 
--- where there is room, bytes are written
-pub wrote_fits : (bs : List ℕ) (at : ℕ) (page : List ℕ) (r : Option ℕ) (after : List ℕ) → at + length bs ≤ length page → Wrote bs at page r after → is_some r ≡ true
-wrote_fits bs at page (Some end) after fits w = refl
-wrote_fits bs at page None after fits w = let over = w.0 in absurd (omega arith)
+-- a part at the start of a page, and at the start of its rest
+pub over_put : (bs page : List ℕ) → put 0 bs page ≡ over bs page
+over_put bs page = ap (λ (k : ℕ). bs ++ drop k page) (zero-add (length bs))
+
+pub put_over : (at : ℕ) (bs page : List ℕ) → take at page ++ over bs (drop at page) ≡ put at bs page
+put_over at bs page = ap (λ (r : List ℕ). take at page ++ (bs ++ r)) (drop-drop (length bs) at page ∙ ap (λ (k : ℕ). drop k page) (omega arith))
+
+-- a part written at the start of the rest from k on
+pub part_over :
+    (k : ℕ) (bs page new : List ℕ) → new ≡ over bs (take (length page - k) (drop k page))
+    → take k page ++ (new ++ drop (length page - k) (drop k page)) ≡ put k bs page
+part_over k bs page new e =
+    let none : drop (length page - k) (drop k page) ≡ [] = drop_all (length page - k) (drop k page) (omega (arith, length-drop k page)) in
+    ap (λ (r : List ℕ). take k page ++ (new ++ r)) none ∙ ap (λ (r : List ℕ). take k page ++ r) (append-nil new ∙ e ∙ ap (over bs) (take_rest page k)) ∙ put_over k bs page
+
+-- bytes written after others, on a page that has room for both
+pub wrote_then :
+    (xs ys page mid after : List ℕ) (at end : ℕ) (r : Option ℕ) → at + length (xs ++ ys) ≤ length page → Wrote xs at page (Some end) mid → Wrote ys end mid r after
+    → Wrote (xs ++ ys) at page r after
+wrote_then xs ys page mid after at end (Some n) room w z =
+    let e = length-append xs ys in
+    let k = w.1 in
+    let l = z.1 in
+    (room, omega arith, z.2 ∙ ap (λ (p : List ℕ). put end ys p) w.2 ∙ put_put at end xs ys page w.1 (omega arith))
+wrote_then xs ys page mid after at end None room w z =
+    let e = length-append xs ys in
+    let k = w.1 in
+    let l : length mid ≡ length page = ap length w.2 ∙ length_put at xs page w.0 in
+    let over = z.0 in
+    absurd (omega arith)

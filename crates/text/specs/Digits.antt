@@ -2,6 +2,11 @@
 use Rattle.std.specs.Prelude.{◌≡◌, ℕ, ◌+◌, ◌-◌, ◌*◌, ◌<◌, ◌≤◌, List, [], ◌∷◌, length, Some, None, decimal, Option, ◌≢◌, slice_index}
 use Rattle.std.specs.Int.{IsInRange}
 
+-- the value of a digit, and none of any other byte
+abbrev pub Digit : ℕ → Option ℕ → Type 0
+Digit b (Some d) = (b ≡ 48 + d) × (d < 10)
+Digit b None = IsInRange 48 57 b → ⊥
+
 -- the field is what is written of a number of at most five digits
 abbrev pub Decimal : List ℕ → Option ℕ → Type 0
 Decimal l (Some n) = (n < 100000) × (l ≡ decimal n)

@@ -1,40 +1,15 @@
 -- A field of digits, by its first and the rest; what is written of a number.
-use Rattle.std.specs.Prelude.{◌≡◌, ℕ, zero, suc, ◌+◌, ◌-◌, ◌*◌, ◌/◌, ◌%◌, ◌<◌, ◌≤◌, List, [], ◌∷◌, length, take, drop, Some, None, decimal, Option, slice_index}
+use Rattle.std.specs.Prelude.{◌≡◌, ℕ, zero, suc, ◌+◌, ◌/◌, ◌%◌, ◌<◌, ◌≤◌, List, [], ◌∷◌, length, Some, None, decimal, Option, slice_index}
 use Rattle.std.proofs.Common.{sym, ap, ◌∙◌, subst, arith, rules}
 use Rattle.std.specs.Int.{IsInRange}
-use Rattle.std.proofs.lemmas.List.{take_all, length_push}
+use Rattle.std.proofs.lemmas.List.{length_push}
 use Rattle.text.specs.Page.{Lacks}
 use Rattle.std.proofs.lemmas.Str.Parse.{IsNumeralModel, numerals_by_fold, tells_by_index, digits_value_short}
 use Rattle.std.proofs.lemmas.Fmt.{decimal-digits_value, digits_decimal, length-decimal-le, decimal_nonempty, first_decimal, decimal_digit, decimal_step}
-use Rattle.text.specs.Digits.{value, Digits, Scanned, Decimal, Following}
+use Rattle.text.specs.Digits.{value, Digits, Scanned, Decimal}
 
 pub own : IsNumeralModel Digits (value 0)
 own = numerals_by_fold _ tells_by_index value (search rules)
-
-first : (d : ℕ) → 0 * 10 + (d - 48) ≡ d - 48
-first d = omega arith
-
-all_digits : (d : ℕ) (t : List ℕ) → IsInRange 48 57 d → Digits t → Digits (d ∷ t)
-all_digits d t here rest zero lt = here
-all_digits d t here rest (suc k) lt = rest k (omega arith)
-
-cons : (d : ℕ) (t : List ℕ) (r : Option ℕ) → 48 ≤ d → d ≤ 57 → (d ≡ 48 → length t ≡ 0) → Following (d - 48) t r → Scanned (d ∷ t) r
-cons d t (Some n) lo hi lone h =
-    let short = h.0 in
-    (omega arith, omega arith, all_digits d t (lo, hi) h.1, (λ e. let z = lone e in omega arith), h.2 ∙ ap (λ (x : ℕ). value x t) (sym (first d)))
-cons d t None lo hi lone h = λ some short all z. h (omega arith) (λ k lt. all (suc k) (omega arith))
-
-split : (l : List ℕ) → 1 ≤ length l → l ≡ slice_index l 0 ∷ take (length l - 1) (drop 1 l)
-split [] h = absurd (omega arith)
-split (d ∷ t) h = ap (λ (x : List ℕ). d ∷ x) (sym (take_all (suc (length t) - 1) t (omega arith)))
-
-pub scanned :
-    (l : List ℕ) (r : Option ℕ) (d : ℕ) → 1 ≤ length l → slice_index l 0 ≡ 48 + d → d < 10 → (d ≡ 0 → length (take (length l - 1) (drop 1 l)) ≡ 0)
-    → Following d (take (length l - 1) (drop 1 l)) r → Scanned l r
-scanned l r d some is small lone h =
-    let e : d ≡ slice_index l 0 - 48 = omega arith in
-    subst (λ (x : List ℕ). Scanned x r) (sym (split l some))
-    (cons (slice_index l 0) _ r (omega arith) (omega arith) (λ z. lone (omega arith)) (subst (λ (x : ℕ). Following x (take (length l - 1) (drop 1 l)) r) e h))
 
 -- what is written of a number begins with 0 only if it is 0
 lone_zero : (n : ℕ) → n < 100000 → slice_index (decimal n) 0 ≡ 48 → length (decimal n) ≡ 1

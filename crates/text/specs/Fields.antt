@@ -1,12 +1,11 @@
 -- Lines as fields with semicolons between them.
-use Rattle.std.specs.Prelude.{◌≡◌, ℕ, List, [], ◌∷◌, ◌++◌, Some, None, Option, ◌≢◌}
+use Rattle.std.specs.Prelude.{ℕ, List, [], ◌∷◌, ◌++◌, Some, None, Option}
 use Rattle.text.specs.declared.number.Number.{Number}
 use Rattle.text.specs.declared.field.Keyword.{Keyword}
 use Rattle.text.specs.declared.field.Keyword.TheVariants.{Absent}
 use Rattle.text.specs.declared.field.Field.{Field}
 use Rattle.text.specs.declared.field.Field.TheVariants.{Word, Value}
 use Rattle.text.specs.Number.{written}
-use Rattle.text.specs.Page.{Lacks}
 use Rattle.text.specs.Words.{spelling}
 
 -- the bytes of a field
@@ -32,13 +31,3 @@ headed w n = Word w ∷ (Value n ∷ [])
 abbrev pub optional : Option Number → Field
 optional (Some n) = Value n
 optional None = Word Absent
-
--- the line is that of two numbers
-abbrev pub PairRead : List ℕ → Option (Number × Number) → Type 0
-PairRead l (Some p) = l ≡ line_of (pair p.0 p.1)
-PairRead l None = (a b : Number) → l ≢ line_of (pair a b)
-
--- what stands before the first semicolon, and what after it
-abbrev pub Split : List ℕ → Option (List ℕ × List ℕ) → Type 0
-Split l (Some p) = (l ≡ p.0 ++ (59 ∷ p.1)) × Lacks 59 p.0
-Split l None = Lacks 59 l

@@ -1,5 +1,5 @@
 -- A line of fields: its length, the bytes that it lacks, and that it tells its fields.
-use Rattle.std.specs.Prelude.{◌≡◌, ℕ, suc, ◌+◌, ◌-◌, ◌*◌, ◌<◌, ◌≤◌, List, [], ◌∷◌, ◌++◌, length, take, drop, ◌≢◌, slice_index_or, refl}
+use Rattle.std.specs.Prelude.{◌≡◌, suc, ◌+◌, ◌-◌, ◌*◌, ◌<◌, ◌≤◌, List, [], ◌∷◌, ◌++◌, length, take, drop, slice_index_or, refl}
 use Rattle.std.proofs.Common.{sym, ap, ◌∙◌, arith, length-append}
 use Rattle.std.proofs.lemmas.List.{take_all}
 use Rattle.text.specs.declared.number.Number.{Number}
@@ -10,7 +10,7 @@ use Rattle.text.specs.declared.field.Field.{Field}
 use Rattle.text.specs.declared.field.Field.TheVariants.{Word, Value}
 use Rattle.text.specs.Fields.{field_of, line_of, pair, headed}
 use Rattle.text.specs.Page.{Lacks}
-use Rattle.text.specs.Cuts.{cut_once, no_cut, lacks_append}
+use Rattle.text.specs.Cuts.{cut_once, lacks_append}
 use Rattle.text.specs.Numbers.{written_once, written_short, lacks_written}
 use Rattle.text.specs.WordsLemmas.{spelling_once, spelling_short, lacks_spelling}
 
@@ -40,6 +40,9 @@ line_short (f ∷ (g ∷ gs)) =
     let l = length-append (field_of f) (59 ∷ line_of (g ∷ gs)) in
     omega arith
 
+pub five_short : (fs : List Field) → length fs ≤ 5 → length (line_of fs) ≤ 63
+five_short fs few = let h = line_short fs in omega arith
+
 -- lines of two fields are equal if the fields' bytes are
 pub two_once : (f g h k : Field) → line_of (f ∷ (g ∷ [])) ≡ line_of (h ∷ (k ∷ [])) → (field_of f ≡ field_of h) × (field_of g ≡ field_of k)
 two_once f g h k e = cut_once 59 (field_of f) (field_of h) (field_of g) (field_of k) (field_whole f) (field_whole h) e
@@ -56,14 +59,6 @@ headed_once v w m n e =
 
 pub contents_once : (v w : Contents-Word) (m n : Number) → line_of (headed (Contents v) m) ≡ line_of (headed (Contents w) n) → (v ≡ w) × (m ≡ n)
 contents_once v w m n e = let h = headed_once (Contents v) (Contents w) m n e in let k = h.0 in (cc, h.1)
-
--- a line of two fields is cut at its first semicolon
-pub two_parts : (l xs ys : List ℕ) (f g : Field) → l ≡ xs ++ (59 ∷ ys) → Lacks 59 xs → l ≡ line_of (f ∷ (g ∷ [])) → (xs ≡ field_of f) × (ys ≡ field_of g)
-two_parts l xs ys f g cut none e = cut_once 59 xs (field_of f) ys (field_of g) none (field_whole f) (sym cut ∙ e)
-
--- what has no semicolon is no line of two fields
-pub not_two : (l : List ℕ) (f g : Field) → Lacks 59 l → l ≢ line_of (f ∷ (g ∷ []))
-not_two l f g none e = no_cut 59 l (field_of f) (field_of g) none e
 
 -- fields by the first and the rest, as a slice's pattern gives them
 pub line_none : (l : List Field) → length l < 1 → line_of l ≡ []

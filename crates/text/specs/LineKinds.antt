@@ -1,22 +1,19 @@
--- Each kind of line: its bytes have no line feed, are short, and tell the line.
+-- Kinds of lines: their bytes have no line feed, are short, and tell the line.
 use Rattle.std.specs.Prelude.{◌≡◌, ◌≤◌, [], ◌∷◌, length}
-use Rattle.std.proofs.Common.{arith}
+use Rattle.std.proofs.Common.{lit≤}
 use Rattle.text.specs.declared.field.Field.TheVariants.{Value, Word}
 use Rattle.text.specs.declared.field.Keyword.TheVariants.{Contents}
 use Rattle.text.specs.declared.field.Keyword.TheVariants as word
 use Rattle.text.specs.declared.report.ReportLine.{ReportLine}
 use Rattle.text.specs.declared.report.ReportLine.TheVariants as report
-use Rattle.text.specs.declared.report.Tally.{Tally}
-use Rattle.text.specs.declared.report.NodeLine.{NodeLine}
-use Rattle.text.specs.declared.report.RefusedLine.{RefusedLine}
 use Rattle.text.specs.declared.records.LinkLine.{LinkLine}
 use Rattle.text.specs.declared.records.FaultLine.{FaultLine}
 use Rattle.text.specs.declared.records.TurnLine.{TurnLine}
 use Rattle.text.specs.declared.contents.ContentsLine.{ContentsLine}
 use Rattle.text.specs.Fields.{pair, headed}
-use Rattle.text.specs.Lines.{link_bytes, fault_bytes, turn_bytes, contents_bytes, tally_bytes, node_bytes, refused_bytes, report_bytes, node_fields}
+use Rattle.text.specs.Lines.{link_bytes, fault_bytes, turn_bytes, contents_bytes, report_bytes, node_fields}
 use Rattle.text.specs.Page.{Lacks}
-use Rattle.text.specs.FieldsLemmas.{line_plain, line_short, pair_once, contents_once}
+use Rattle.text.specs.FieldsLemmas.{five_short, line_plain, pair_once, contents_once}
 use Rattle.text.specs.Numbers.{written_once}
 
 pub link_plain : (x : LinkLine) → Lacks 10 (link_bytes x)
@@ -31,45 +28,15 @@ turn_plain x = line_plain (Value x.node ∷ [])
 pub contents_plain : (x : ContentsLine) → Lacks 10 (contents_bytes x)
 contents_plain x = line_plain (headed (Contents x.word) x.number)
 
-pub tally_plain : (x : Tally) → Lacks 10 (tally_bytes x)
-tally_plain x = line_plain (headed (word.Tally x.word) x.number)
-
-pub node_plain : (x : NodeLine) → Lacks 10 (node_bytes x)
-node_plain x = line_plain (node_fields x)
-
-pub refused_plain : (x : RefusedLine) → Lacks 10 (refused_bytes x)
-refused_plain x = line_plain (Word word.Refused ∷ pair x.number x.line)
-
 pub report_plain : (x : ReportLine) → Lacks 10 (report_bytes x)
-report_plain (report.Tally x) = tally_plain x
-report_plain (report.Node x) = node_plain x
-report_plain (report.Refused x) = refused_plain x
-
-pub link_short : (x : LinkLine) → length (link_bytes x) ≤ 63
-link_short x = let h = line_short (pair x.a x.b) in omega arith
-
-pub fault_short : (x : FaultLine) → length (fault_bytes x) ≤ 63
-fault_short x = let h = line_short (pair x.register x.value) in omega arith
-
-pub turn_short : (x : TurnLine) → length (turn_bytes x) ≤ 63
-turn_short x = let h = line_short (Value x.node ∷ []) in omega arith
-
-pub contents_short : (x : ContentsLine) → length (contents_bytes x) ≤ 63
-contents_short x = let h = line_short (headed (Contents x.word) x.number) in omega arith
-
-pub tally_short : (x : Tally) → length (tally_bytes x) ≤ 63
-tally_short x = let h = line_short (headed (word.Tally x.word) x.number) in omega arith
-
-pub node_short : (x : NodeLine) → length (node_bytes x) ≤ 63
-node_short x = let h = line_short (node_fields x) in omega arith
-
-pub refused_short : (x : RefusedLine) → length (refused_bytes x) ≤ 63
-refused_short x = let h = line_short (Word word.Refused ∷ pair x.number x.line) in omega arith
+report_plain (report.Tally x) = line_plain (headed (word.Tally x.word) x.number)
+report_plain (report.Node x) = line_plain (node_fields x)
+report_plain (report.Refused x) = line_plain (Word word.Refused ∷ pair x.number x.line)
 
 pub report_short : (x : ReportLine) → length (report_bytes x) ≤ 63
-report_short (report.Tally x) = tally_short x
-report_short (report.Node x) = node_short x
-report_short (report.Refused x) = refused_short x
+report_short (report.Tally x) = five_short (headed (word.Tally x.word) x.number) (lit≤ tt)
+report_short (report.Node x) = five_short (node_fields x) (lit≤ tt)
+report_short (report.Refused x) = five_short (Word word.Refused ∷ pair x.number x.line) (lit≤ tt)
 
 pub same_link : (x y : LinkLine) → link_bytes x ≡ link_bytes y → x ≡ y
 same_link x y e = let h = pair_once x.a x.b y.a y.b e in λ i. record { a = h.0 i; b = h.1 i }

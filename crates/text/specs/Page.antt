@@ -5,6 +5,10 @@ use Rattle.std.specs.Prelude.{◌≡◌, ℕ, ◌+◌, ◌<◌, ◌≤◌, List,
 abbrev pub put : ℕ → List ℕ → List ℕ → List ℕ
 put at bs page = take at page ++ (bs ++ drop (at + length bs) page)
 
+-- the page with bs at its start; the rest stays
+abbrev pub over : List ℕ → List ℕ → List ℕ
+over bs page = bs ++ drop (length bs) page
+
 -- c does not stand in the list
 abbrev pub Lacks : ℕ → List ℕ → Type 0
 Lacks c [] = Unit {0}

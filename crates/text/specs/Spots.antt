@@ -1,5 +1,5 @@
 -- What a reader has yet to read, and what its calls answer.
-use Rattle.std.specs.Prelude.{◌≡◌, ℕ, ◌+◌, List, [], ◌∷◌, ◌++◌, drop, Some, None, Ok, Err, Option, Result, ◌≢◌}
+use Rattle.std.specs.Prelude.{◌≡◌, ℕ, ◌+◌, List, [], ◌∷◌, ◌++◌, Some, None, Ok, Err, Option, Result, ◌≢◌}
 use Rattle.text.specs.declared.fault.ScanFault.{ScanFault}
 use Rattle.text.specs.declared.fault.ScanFault.TheVariants.{Form, Lacking, Trailing}
 use Rattle.text.specs.declared.reader.Reader.{Reader}
@@ -12,7 +12,7 @@ pub record Spot : Type 0 where
   pub line : ℕ
 
 abbrev pub spot : Reader → Spot
-spot r = record { rest = drop r.at r.src.now; line = r.line }
+spot r = record { rest = r.rest.now; line = r.line }
 
 -- the bytes up to the first line feed are taken off
 abbrev pub Cut : Reader → Option (List ℕ) → Reader → Type 0

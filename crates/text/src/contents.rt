@@ -1,17 +1,21 @@
 //! The lines that say how many lines of each kind a file has.
-ghost use Rattle.text.specs.Line.{Accepts};
-ghost use Rattle.text.specs.Lines.{contents_bytes};
 ghost use Rattle.text.specs.Number.{zero_number};
 ghost use Rattle.text.specs.Words.{letters};
 ghost use Rattle.text.specs.declared.contents.Word.TheVariants.{Nodes};
-ghost use Rattle.text.specs.LineKinds.{contents_plain, contents_short, same_contents};
+ghost use Rattle.text.specs.declared.field.Keyword.TheVariants.{Contents};
+ghost use Rattle.std.proofs.Common.{lit≤};
+ghost use Rattle.text.specs.Fields.{headed};
+ghost use Rattle.text.specs.FieldsLemmas.{field_whole};
+ghost use Rattle.text.specs.declared.field.Field.TheVariants.{Word as Named};
+ghost use Rattle.std.specs.Prelude.{◌≡◌, Decides};
+ghost use Rattle.text.specs.LineKinds.{same_contents};
 
-use crate::field::{Keyword, fields_size, headed_fields, split, write_fields};
-use crate::line::{ReadLine, WriteLine};
+use crate::field::{Field, Keyword, ReadField, read_two};
+use crate::line::{FieldLine, ReadLine};
 use crate::number::Number;
 
 /// What a contents line counts.
-#[derive(Clone, Copy)]
+#[derive(Clone, Copy, PartialEq, Eq, Debug)]
 pub enum Word {
     /// The nodes of the site.
     Nodes,
@@ -24,7 +28,7 @@ pub enum Word {
 }
 
 /// A contents line, as `NODES;5`.
-#[derive(Clone, Copy)]
+#[derive(Clone, Copy, PartialEq, Eq, Debug)]
 pub struct ContentsLine {
     /// What is counted.
     pub word: Word,
@@ -32,42 +36,49 @@ pub struct ContentsLine {
     pub number: Number,
 }
 
-// The word that is spelt so.
-fn find_word(name: &[u8]) -> Option<Word>
-    ensures { Accepts letters name.now result }
-{
-    if name == b"NODES".as_slice() {
-        return Some(Word::Nodes);
+impl Word {
+    // Every word.
+    const ALL: [Word; 4] = [Word::Nodes, Word::Links, Word::Faults, Word::Turns];
+
+    // The bytes of the word.
+    pub(crate) fn spell(self) -> &'static [u8]
+        ensures { result.now ≡ letters self }
+    {
+        match self {
+            Word::Nodes => b"NODES",
+            Word::Links => b"LINKS",
+            Word::Faults => b"FAULTS",
+            Word::Turns => b"TURNS",
+        }
     }
-    if name == b"LINKS".as_slice() {
-        return Some(Word::Links);
+
+    // Whether the word is spelt so.
+    fn is(self, text: &[u8]) -> bool
+        ensures { Decides result (text.now ≡ letters self) }
+    {
+        text == self.spell()
     }
-    if name == b"FAULTS".as_slice() {
-        return Some(Word::Faults);
-    }
-    if name == b"TURNS".as_slice() {
-        return Some(Word::Turns);
-    }
-    None
 }
 
-impl WriteLine for ContentsLine {
-    ghost bytes = { contents_bytes };
+impl ReadField for Word {
+    ghost text = { letters };
 
-    ghost plain = { contents_plain };
+    ghost whole = { λ w. field_whole (Named (Contents w)) };
 
-    ghost short = { contents_short };
-
-    fn size(&self) -> usize {
-        fields_size(&headed_fields(Keyword::Contents(self.word), self.number))
+    fn read_field(field: &[u8]) -> Option<Word> {
+        Word::ALL.iter().copied().find(|word| word.is(field))
     }
+}
 
-    fn write(&self, page: &mut [u8], at: usize) -> Option<usize> {
-        write_fields(
-            &headed_fields(Keyword::Contents(self.word), self.number),
-            page,
-            at,
-        )
+impl FieldLine for ContentsLine {
+    ghost parts = { λ x. headed (Contents x.word) x.number };
+
+    ghost few = { λ x. lit≤ tt };
+
+    type Fields = [Field; 2];
+
+    fn fields(&self) -> [Field; 2] {
+        [Keyword::Contents(self.word).into(), self.number.into()]
     }
 }
 
@@ -84,15 +95,7 @@ impl ReadLine for ContentsLine {
     }
 
     fn read(line: &[u8]) -> Option<ContentsLine> {
-        let Some((name, rest)) = split(line) else {
-            return None;
-        };
-        let Some(word) = find_word(name) else {
-            return None;
-        };
-        let Some(number) = Number::read(rest) else {
-            return None;
-        };
+        let (word, number) = read_two(line)?;
         Some(ContentsLine { word, number })
     }
 }

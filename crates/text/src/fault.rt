@@ -3,7 +3,7 @@ ghost use Rattle.std.specs.Prelude.{◌≡◌};
 ghost use Rattle.text.specs.Faults.{line_of_fault};
 
 /// What a reader found, with the line from 1 that it was found in.
-#[derive(Clone, Copy)]
+#[derive(Clone, Copy, PartialEq, Eq, Debug)]
 pub enum ScanFault {
     /// The line is not in its form.
     Form(usize),
@@ -19,9 +19,7 @@ impl ScanFault {
         ensures { result ≡ line_of_fault self }
     {
         match self {
-            ScanFault::Form(line) => line,
-            ScanFault::Lacking(line) => line,
-            ScanFault::Trailing(line) => line,
+            ScanFault::Form(line) | ScanFault::Lacking(line) | ScanFault::Trailing(line) => line,
         }
     }
 }

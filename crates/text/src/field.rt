@@ -1,17 +1,20 @@
 //! Fields: words and numbers between semicolons.
-ghost use Rattle.std.specs.Prelude.{◌≡◌, ◌+◌, ◌≤◌, [], length, Some, None};
-ghost use Rattle.text.specs.Fields.{Split, field_of, headed, line_of, optional, pair};
-ghost use Rattle.text.specs.Page.{Wrote, put};
+ghost use Rattle.std.specs.Prelude.{◌≡◌, ℕ, ◌+◌, ◌≤◌, List, length};
+ghost use Rattle.text.specs.declared.field.Field.TheVariants.{Value, Word as Named};
+ghost use Rattle.text.specs.Fields.{field_of, line_of, optional};
+ghost use Rattle.text.specs.FieldsLemmas.{field_whole};
+ghost use Rattle.text.specs.Line.{Accepts, AcceptsTwo};
+ghost use Rattle.text.specs.Number.{written};
+ghost use Rattle.text.specs.Page.{Lacks, Wrote, over};
 ghost use Rattle.text.specs.Words.{spelling};
 
 use crate::contents::Word;
-use crate::number::Number;
-use crate::number::calls::{count_digits, write_digits};
+use crate::number::{Number, count_digits, write_digits};
 use crate::report::TallyWord;
-use crate::scan::field_end;
+use crate::scan::split_field;
 
 /// A field that is no number.
-#[derive(Clone, Copy)]
+#[derive(Clone, Copy, PartialEq, Eq, Debug)]
 pub enum Keyword {
     /// A word of the contents.
     Contents(Word),
@@ -24,7 +27,7 @@ pub enum Keyword {
 }
 
 /// A field of a line.
-#[derive(Clone, Copy)]
+#[derive(Clone, Copy, PartialEq, Eq, Debug)]
 pub enum Field {
     /// A word.
     Word(Keyword),
@@ -38,52 +41,68 @@ impl Keyword {
         ensures { result.now ≡ spelling self }
     {
         match self {
-            Keyword::Contents(Word::Nodes) => b"NODES",
-            Keyword::Contents(Word::Links) => b"LINKS",
-            Keyword::Contents(Word::Faults) => b"FAULTS",
-            Keyword::Contents(Word::Turns) => b"TURNS",
-            Keyword::Tally(TallyWord::Bound) => b"BOUND",
-            Keyword::Tally(TallyWord::Rounds) => b"ROUNDS",
-            Keyword::Tally(TallyWord::Last) => b"LAST",
+            Keyword::Contents(word) => word.spell(),
+            Keyword::Tally(word) => word.spell(),
             Keyword::Refused => b"REFUSED",
             Keyword::Absent => b"-",
         }
     }
 }
 
-// Two numbers as fields.
-pub(crate) fn pair_fields(a: Number, b: Number) -> [Field; 2]
-    ensures { result ≡ pair a b }
-{
-    [Field::Value(a), Field::Value(b)]
-}
+/// A word as a field.
+impl From<Keyword> for Field {
+    ghost from_gives = { λ w f. f ≡ Named w };
 
-// A word and a number as fields.
-pub(crate) fn headed_fields(word: Keyword, number: Number) -> [Field; 2]
-    ensures { result ≡ headed word number }
-{
-    [Field::Word(word), Field::Value(number)]
-}
-
-// A number that may be absent as a field.
-pub(crate) fn optional_field(number: Option<Number>) -> Field
-    ensures { result ≡ optional number }
-{
-    match number {
-        Some(n) => Field::Value(n),
-        None => Field::Word(Keyword::Absent),
+    fn from(keyword: Keyword) -> Field {
+        Field::Word(keyword)
     }
 }
 
-// What stands before the first semicolon, and what after it.
-pub(crate) fn split<'a>(line: &'a [u8]) -> Option<(&'a [u8], &'a [u8])>
-    ensures { Split line.now (elim result [ Some p ↦ Some (p.0.now, p.1.now) | None ↦ None ]) }
-{
-    let k = field_end(line);
-    if k >= line.len() {
-        return None;
+/// A number as a field.
+impl From<Number> for Field {
+    ghost from_gives = { λ n f. f ≡ Value n };
+
+    fn from(value: Number) -> Field {
+        Field::Value(value)
     }
-    Some((&line[0..k], &line[k + 1..]))
+}
+
+/// A number that may be absent as a field.
+impl From<Option<Number>> for Field {
+    ghost from_gives = { λ n f. f ≡ optional n };
+
+    fn from(number: Option<Number>) -> Field {
+        number.map_or(Field::Word(Keyword::Absent), Field::Value)
+    }
+}
+
+// A field that can be read: what is accepted is exactly what is written.
+pub(crate) trait ReadField: Copy {
+    ghost text: { Self → List ℕ };
+
+    // What is written so.
+    fn read_field(field: &[u8]) -> Option<Self>
+        ensures { Accepts text field.now result };
+
+    ghost whole: { (x : Self) → Lacks 59 (text x) };
+}
+
+impl ReadField for Number {
+    ghost text = { written };
+
+    ghost whole = { λ n. field_whole (Value n) };
+
+    fn read_field(field: &[u8]) -> Option<Number> {
+        Number::read(field)
+    }
+}
+
+// Two fields, apart by a semicolon.
+pub(crate) fn read_two<A: ReadField, B: ReadField>(line: &[u8]) -> Option<(A, B)>
+    ensures { AcceptsTwo A.text B.text line.now result }
+{
+    let (left, right) = split_field(line)?;
+    Some((A::read_field(left)?, B::read_field(right)?))
 }
 
 // How many bytes a field has.
@@ -97,6 +116,7 @@ fn field_size(field: Field) -> usize
 }
 
 // How many bytes the fields have, with the semicolons between them.
+#[tactic(auto, using(crate::specs::FieldsLemmas::field_short, crate::specs::FieldsLemmas::line_short, crate::specs::FieldsLemmas::length_more))]
 pub(crate) fn fields_size(fields: &[Field]) -> usize
     requires { length fields.now ≤ 5 }
     ensures { result ≡ length (line_of fields.now) }
@@ -108,42 +128,41 @@ pub(crate) fn fields_size(fields: &[Field]) -> usize
     }
 }
 
-// Bytes onto the page from `at` on; the place after them.
-fn put_bytes(bytes: &[u8], page: &mut [u8], at: usize) -> usize
-    requires { at + length bytes.now ≤ length page.old }
-    ensures value { result ≡ at + length bytes.now }
-    ensures page_after { page.new ≡ put at bytes.now page.old }
+// Bytes at the start of a page; how many they are.
+fn put_bytes(bytes: &[u8], page: &mut [u8]) -> usize
+    requires { length bytes.now ≤ length page.old }
+    ensures value { result ≡ length bytes.now }
+    ensures page_after { page.new ≡ over bytes.now page.old }
 {
-    let end = at + bytes.len();
-    page[at..end].copy_from_slice(bytes);
-    end
+    page[..bytes.len()].copy_from_slice(bytes);
+    bytes.len()
 }
 
-// A field onto the page from `at` on; the place after it.
-fn put_field(field: Field, page: &mut [u8], at: usize) -> usize
-    requires { at + length (field_of field) ≤ length page.old }
-    ensures value { result ≡ at + length (field_of field) }
-    ensures page_after { page.new ≡ put at (field_of field) page.old }
+// A field at the start of a page; how many bytes it has.
+fn put_field(field: Field, page: &mut [u8]) -> usize
+    requires { length (field_of field) ≤ length page.old }
+    ensures value { result ≡ length (field_of field) }
+    ensures page_after { page.new ≡ over (field_of field) page.old }
 {
     match field {
-        Field::Word(word) => put_bytes(word.spell(), page, at),
-        Field::Value(number) => write_digits(number.get(), page, at),
+        Field::Word(word) => put_bytes(word.spell(), page),
+        Field::Value(number) => write_digits(number.get(), page),
     }
 }
 
-// Fields onto the page from `at` on, with semicolons between them; the place after them.
-fn put_fields(fields: &[Field], page: &mut [u8], at: usize) -> usize
-    requires { at + length (line_of fields.now) ≤ length page.old }
-    ensures value { result ≡ at + length (line_of fields.now) }
-    ensures page_after { page.new ≡ put at (line_of fields.now) page.old }
+// Fields at the start of a page, with semicolons between them; how many bytes these are.
+fn put_fields(fields: &[Field], page: &mut [u8]) -> usize
+    requires { length (line_of fields.now) ≤ length page.old }
+    ensures value { result ≡ length (line_of fields.now) }
+    ensures page_after { page.new ≡ over (line_of fields.now) page.old }
 {
     match fields {
-        [] => at,
-        [only] => put_field(*only, page, at),
+        [] => 0,
+        [only] => put_field(*only, page),
         [first, rest @ ..] => {
-            let mid = put_field(*first, page, at);
-            page[mid] = b';';
-            put_fields(rest, page, mid + 1)
+            let size = put_field(*first, page);
+            page[size] = b';';
+            size + 1 + put_fields(rest, &mut page[size + 1..])
         }
     }
 }
@@ -153,8 +172,9 @@ pub(crate) fn write_fields(fields: &[Field], page: &mut [u8], at: usize) -> Opti
     requires { length fields.now ≤ 5 }
     ensures { Wrote (line_of fields.now) at page.old result page.new }
 {
-    if at > page.len() || fields_size(fields) > page.len() - at {
+    let room = page.len().checked_sub(at)?;
+    if fields_size(fields) > room {
         return None;
     }
-    Some(put_fields(fields, page, at))
+    Some(at + put_fields(fields, &mut page[at..]))
 }

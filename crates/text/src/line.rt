@@ -1,7 +1,13 @@
 //! Lines that can be written, and lines that can be read too.
 ghost use Rattle.std.specs.Prelude.{◌≡◌, ℕ, ◌+◌, ◌≤◌, List, length};
+ghost use Rattle.text.specs.declared.field.Field.{Field};
+ghost use Rattle.text.specs.Fields.{line_of};
+ghost use Rattle.text.specs.FieldsLemmas.{five_short, line_plain};
 ghost use Rattle.text.specs.Line.{Accepts};
 ghost use Rattle.text.specs.Page.{Lacks, Wrote};
+
+use crate::field::{Field, fields_size, write_fields};
+use std::convert::AsSlice;
 
 /// A line that can be written. Its bytes are without the line feed.
 pub trait WriteLine: Sized {
@@ -11,6 +17,7 @@ pub trait WriteLine: Sized {
     fn size(&self) -> usize
         ensures { result ≡ length (bytes self.now) };
 
+    // The page and `at` stay two: each function over a struct that holds a `&mut` needs a clause on its name.
     /// Writes the line, without its line feed, onto the page from `at` on, and answers the place after it.
     /// Where there is no room, the page stays as it is and the answer is `None`.
     fn write(&self, page: &mut [u8], at: usize) -> Option<usize>
@@ -34,4 +41,35 @@ pub trait ReadLine: WriteLine + Copy {
         ensures { Accepts Self.WriteLine.bytes line.now result };
 
     ghost once: { (x y : Self) → Self.WriteLine.bytes x ≡ Self.WriteLine.bytes y → x ≡ y };
+}
+
+/// A line of at most five fields, with semicolons between them.
+pub trait FieldLine: Sized {
+    ghost parts: { Self → List Field };
+
+    /// An array of fields.
+    type Fields: AsSlice<Field> + Copy;
+
+    /// The line's fields.
+    fn fields(&self) -> Self::Fields
+        ensures { Self.Fields.items result ≡ parts self.now };
+
+    ghost few: { (x : Self) → length (parts x) ≤ 5 };
+}
+
+/// A line of fields can be written.
+impl<L: FieldLine> WriteLine for L {
+    ghost bytes = { λ x. line_of (L.parts x) };
+
+    ghost plain = { λ x. line_plain (L.parts x) };
+
+    ghost short = { λ x. five_short (L.parts x) (L.few x) };
+
+    fn size(&self) -> usize {
+        fields_size(self.fields().as_slice())
+    }
+
+    fn write(&self, page: &mut [u8], at: usize) -> Option<usize> {
+        write_fields(self.fields().as_slice(), page, at)
+    }
 }

@@ -1,15 +1,17 @@
 //! The lines of a file's body: links, faults and turns.
-ghost use Rattle.text.specs.Fields.{PairRead, pair};
-ghost use Rattle.text.specs.Lines.{fault_bytes, link_bytes, turn_bytes};
+ghost use Rattle.std.specs.Prelude.{[], ◌∷◌};
+ghost use Rattle.std.proofs.Common.{lit≤};
+ghost use Rattle.text.specs.declared.field.Field.TheVariants.{Value};
+ghost use Rattle.text.specs.Fields.{pair};
+ghost use Rattle.text.specs.LineKinds.{same_fault, same_link, same_turn};
 ghost use Rattle.text.specs.Number.{zero_number};
-ghost use Rattle.text.specs.LineKinds.{fault_plain, fault_short, link_plain, link_short, same_fault, same_link, same_turn, turn_plain, turn_short};
 
-use crate::field::{Field, fields_size, pair_fields, split, write_fields};
-use crate::line::{ReadLine, WriteLine};
+use crate::field::{Field, read_two};
+use crate::line::{FieldLine, ReadLine};
 use crate::number::Number;
 
 /// A link of two nodes, as `0;1`.
-#[derive(Clone, Copy)]
+#[derive(Clone, Copy, PartialEq, Eq, Debug)]
 pub struct LinkLine {
     /// The one end.
     pub a: Number,
@@ -18,7 +20,7 @@ pub struct LinkLine {
 }
 
 /// A value that a register is set to, as `12;7`.
-#[derive(Clone, Copy)]
+#[derive(Clone, Copy, PartialEq, Eq, Debug)]
 pub struct FaultLine {
     /// The place of the register.
     pub register: Number,
@@ -27,73 +29,45 @@ pub struct FaultLine {
 }
 
 /// A node's turn, as `3`.
-#[derive(Clone, Copy)]
+#[derive(Clone, Copy, PartialEq, Eq, Debug)]
 pub struct TurnLine {
     /// The node.
     pub node: Number,
 }
 
-// Two numbers, apart by a semicolon.
-fn read_pair(line: &[u8]) -> Option<(Number, Number)>
-    ensures { PairRead line.now result }
-{
-    let Some((left, right)) = split(line) else {
-        return None;
-    };
-    let Some(a) = Number::read(left) else {
-        return None;
-    };
-    let Some(b) = Number::read(right) else {
-        return None;
-    };
-    Some((a, b))
-}
+impl FieldLine for LinkLine {
+    ghost parts = { λ x. pair x.a x.b };
 
-impl WriteLine for LinkLine {
-    ghost bytes = { link_bytes };
+    ghost few = { λ x. lit≤ tt };
 
-    ghost plain = { link_plain };
+    type Fields = [Field; 2];
 
-    ghost short = { link_short };
-
-    fn size(&self) -> usize {
-        fields_size(&pair_fields(self.a, self.b))
-    }
-
-    fn write(&self, page: &mut [u8], at: usize) -> Option<usize> {
-        write_fields(&pair_fields(self.a, self.b), page, at)
+    fn fields(&self) -> [Field; 2] {
+        [self.a.into(), self.b.into()]
     }
 }
 
-impl WriteLine for FaultLine {
-    ghost bytes = { fault_bytes };
+impl FieldLine for FaultLine {
+    ghost parts = { λ x. pair x.register x.value };
 
-    ghost plain = { fault_plain };
+    ghost few = { λ x. lit≤ tt };
 
-    ghost short = { fault_short };
+    type Fields = [Field; 2];
 
-    fn size(&self) -> usize {
-        fields_size(&pair_fields(self.register, self.value))
-    }
-
-    fn write(&self, page: &mut [u8], at: usize) -> Option<usize> {
-        write_fields(&pair_fields(self.register, self.value), page, at)
+    fn fields(&self) -> [Field; 2] {
+        [self.register.into(), self.value.into()]
     }
 }
 
-impl WriteLine for TurnLine {
-    ghost bytes = { turn_bytes };
+impl FieldLine for TurnLine {
+    ghost parts = { λ x. Value x.node ∷ [] };
 
-    ghost plain = { turn_plain };
+    ghost few = { λ x. lit≤ tt };
 
-    ghost short = { turn_short };
+    type Fields = [Field; 1];
 
-    fn size(&self) -> usize {
-        fields_size(&[Field::Value(self.node)])
-    }
-
-    fn write(&self, page: &mut [u8], at: usize) -> Option<usize> {
-        write_fields(&[Field::Value(self.node)], page, at)
+    fn fields(&self) -> [Field; 1] {
+        [self.node.into()]
     }
 }
 
@@ -110,13 +84,8 @@ impl ReadLine for LinkLine {
     }
 
     fn read(line: &[u8]) -> Option<LinkLine> {
-        match read_pair(line) {
-            Some(ends) => Some(LinkLine {
-                a: ends.0,
-                b: ends.1,
-            }),
-            None => None,
-        }
+        let (a, b) = read_two(line)?;
+        Some(LinkLine { a, b })
     }
 }
 
@@ -133,13 +102,8 @@ impl ReadLine for FaultLine {
     }
 
     fn read(line: &[u8]) -> Option<FaultLine> {
-        match read_pair(line) {
-            Some(parts) => Some(FaultLine {
-                register: parts.0,
-                value: parts.1,
-            }),
-            None => None,
-        }
+        let (register, value) = read_two(line)?;
+        Some(FaultLine { register, value })
     }
 }
 
@@ -155,9 +119,7 @@ impl ReadLine for TurnLine {
     }
 
     fn read(line: &[u8]) -> Option<TurnLine> {
-        match Number::read(line) {
-            Some(node) => Some(TurnLine { node }),
-            None => None,
-        }
+        let node = Number::read(line)?;
+        Some(TurnLine { node })
     }
 }

@@ -1,14 +1,19 @@
 //! The lines of a report, which are only written.
 ghost use Rattle.std.specs.Prelude.{◌≡◌, ◌∷◌};
-ghost use Rattle.text.specs.Lines.{node_bytes, node_fields, refused_bytes, report_bytes, tally_bytes};
-ghost use Rattle.text.specs.LineKinds.{node_plain, node_short, refused_plain, refused_short, report_plain, report_short, tally_plain, tally_short};
+ghost use Rattle.text.specs.Words.{tally_letters};
+ghost use Rattle.std.proofs.Common.{lit≤};
+ghost use Rattle.text.specs.declared.field.Field.TheVariants.{Word};
+ghost use Rattle.text.specs.declared.field.Keyword.TheVariants.{Refused, Tally as Told};
+ghost use Rattle.text.specs.Fields.{headed, pair};
+ghost use Rattle.text.specs.Lines.{node_fields, report_bytes};
+ghost use Rattle.text.specs.LineKinds.{report_plain, report_short};
 
-use crate::field::{Field, Keyword, fields_size, headed_fields, optional_field, write_fields};
-use crate::line::WriteLine;
+use crate::field::{Field, Keyword};
+use crate::line::{FieldLine, WriteLine};
 use crate::number::Number;
 
 /// What a tally line tells.
-#[derive(Clone, Copy)]
+#[derive(Clone, Copy, PartialEq, Eq, Debug)]
 pub enum TallyWord {
     /// The bound on the rounds.
     Bound,
@@ -18,8 +23,21 @@ pub enum TallyWord {
     Last,
 }
 
+impl TallyWord {
+    // The bytes of the word.
+    pub(crate) fn spell(self) -> &'static [u8]
+        ensures { result.now ≡ tally_letters self }
+    {
+        match self {
+            TallyWord::Bound => b"BOUND",
+            TallyWord::Rounds => b"ROUNDS",
+            TallyWord::Last => b"LAST",
+        }
+    }
+}
+
 /// A number of the report, as `BOUND;12`.
-#[derive(Clone, Copy)]
+#[derive(Clone, Copy, PartialEq, Eq, Debug)]
 pub struct Tally {
     /// What is told.
     pub word: TallyWord,
@@ -28,7 +46,7 @@ pub struct Tally {
 }
 
 /// A refusal by its number, with the line of the file, as `REFUSED;3;17`.
-#[derive(Clone, Copy)]
+#[derive(Clone, Copy, PartialEq, Eq, Debug)]
 pub struct RefusedLine {
     /// The refusal's number.
     pub number: Number,
@@ -37,7 +55,7 @@ pub struct RefusedLine {
 }
 
 /// What a node's registers tell, as `3;1;2;2;-`.
-#[derive(Clone, Copy)]
+#[derive(Clone, Copy, PartialEq, Eq, Debug)]
 pub struct NodeLine {
     /// The node.
     pub node: Number,
@@ -52,7 +70,7 @@ pub struct NodeLine {
 }
 
 /// A line of a report.
-#[derive(Clone, Copy)]
+#[derive(Clone, Copy, PartialEq, Eq, Debug)]
 pub enum ReportLine {
     /// A number of the report.
     Tally(Tally),
@@ -62,85 +80,53 @@ pub enum ReportLine {
     Refused(RefusedLine),
 }
 
-impl WriteLine for Tally {
-    ghost bytes = { tally_bytes };
+impl FieldLine for Tally {
+    ghost parts = { λ x. headed (Told x.word) x.number };
 
-    ghost plain = { tally_plain };
+    ghost few = { λ x. lit≤ tt };
 
-    ghost short = { tally_short };
+    type Fields = [Field; 2];
 
-    fn size(&self) -> usize {
-        fields_size(&headed_fields(Keyword::Tally(self.word), self.number))
-    }
-
-    fn write(&self, page: &mut [u8], at: usize) -> Option<usize> {
-        write_fields(
-            &headed_fields(Keyword::Tally(self.word), self.number),
-            page,
-            at,
-        )
+    fn fields(&self) -> [Field; 2] {
+        [Keyword::Tally(self.word).into(), self.number.into()]
     }
 }
 
-impl WriteLine for RefusedLine {
-    ghost bytes = { refused_bytes };
+impl FieldLine for RefusedLine {
+    ghost parts = { λ x. Word Refused ∷ pair x.number x.line };
 
-    ghost plain = { refused_plain };
+    ghost few = { λ x. lit≤ tt };
 
-    ghost short = { refused_short };
+    type Fields = [Field; 3];
 
-    fn size(&self) -> usize {
-        fields_size(&[
-            Field::Word(Keyword::Refused),
-            Field::Value(self.number),
-            Field::Value(self.line),
-        ])
-    }
-
-    fn write(&self, page: &mut [u8], at: usize) -> Option<usize> {
-        write_fields(
-            &[
-                Field::Word(Keyword::Refused),
-                Field::Value(self.number),
-                Field::Value(self.line),
-            ],
-            page,
-            at,
-        )
-    }
-}
-
-impl NodeLine {
-    // The line's fields.
-    fn fields(&self) -> [Field; 5]
-        ensures { result ≡ node_fields self.now }
-    {
+    fn fields(&self) -> [Field; 3] {
         [
-            Field::Value(self.node),
-            optional_field(self.parent),
-            Field::Value(self.count),
-            Field::Value(self.rank),
-            optional_field(self.mate),
+            Keyword::Refused.into(),
+            self.number.into(),
+            self.line.into(),
         ]
     }
 }
 
-impl WriteLine for NodeLine {
-    ghost bytes = { node_bytes };
+impl FieldLine for NodeLine {
+    ghost parts = { node_fields };
 
-    ghost plain = { node_plain };
+    ghost few = { λ x. lit≤ tt };
 
-    ghost short = { node_short };
+    type Fields = [Field; 5];
 
-    fn size(&self) -> usize {
-        fields_size(&self.fields())
-    }
-
-    fn write(&self, page: &mut [u8], at: usize) -> Option<usize> {
-        write_fields(&self.fields(), page, at)
+    fn fields(&self) -> [Field; 5] {
+        [
+            self.node.into(),
+            self.parent.into(),
+            self.count.into(),
+            self.rank.into(),
+            self.mate.into(),
+        ]
     }
 }
 
+// By its kind, twice: the kinds' arrays of fields have different lengths.
 impl WriteLine for ReportLine {
     ghost bytes = { report_bytes };
 

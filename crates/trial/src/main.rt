@@ -4,23 +4,16 @@
 #![tactic(auto)]
 
 use anyhow::anyhow;
-use bases::matching::Matching;
-use bases::tree::Tree;
 use daemon::Daemon;
 use daemon::robin::RoundRobin;
-use layers::beside::Beside;
-use layers::count::Count;
-use layers::rank::Rank;
 use net::net::Net;
 use promise::Lifted;
 use refusal::Refusal;
+use report::room::stack;
 use silent::Silent;
 use site::build::build;
 use site::link::Link;
 use site::site::Site;
-use std::alloc::{AllocError, Global};
-
-type Stack = Beside<Rank<Count<Tree>>, Matching>;
 
 // The links of the site of five nodes.
 const LINKS: [Link; 5] = [
@@ -31,21 +24,10 @@ const LINKS: [Link; 5] = [
     Link { a: 3, b: 4 },
 ];
 
-// The program's stack of protocols, with all registers 0.
-fn stack(heap: Global) -> Result<Stack, AllocError> {
-    let tree = Tree::new(heap)?;
-    let count = Count::new(heap, tree)?;
-    let rank = Rank::new(heap, count)?;
-    let matching = Matching::new(heap)?;
-    Ok(Beside::new(rank, matching))
-}
-
 // Takes a hold and lifts it, or cancels it where that is declined: the answer to the lift.
 fn try_lift<P: Silent>(net: &mut Net<P>) -> Result<Lifted, Refusal> {
-    let hold = match net.hold(1) {
-        Ok(hold) => hold,
-        Err(e) => return Err(e),
-    };
+    let hold = net.hold(1)?;
+    // By cases: a hold that comes back cannot be let go.
     match net.lift(hold) {
         Ok(lifted) => Ok(lifted),
         Err((e, hold)) => match net.cancel(hold) {
@@ -65,24 +47,17 @@ fn draw<P: Silent>(net: &mut Net<P>, robin: &mut RoundRobin, times: u32) {
 // What a lift answers, in words.
 fn say(rt: &HostRuntime, draws: u32, answer: Result<Lifted, Refusal>) -> anyhow::Result<()> {
     match answer {
-        Ok(lifted) => {
-            let bound = lifted.bound;
-            let last = lifted.last_change;
-            println!(rt; "{draws} draws: granted, bound {bound}, last change {last}")?;
+        Ok(Lifted { bound, last_change }) => {
+            println!(rt; "{draws} draws: granted, bound {bound}, last change {last_change}")?;
         }
-        Err(e) => {
-            let number = e.number();
-            println!(rt; "{draws} draws: {number}")?;
-        }
+        Err(e) => println!(rt; "{draws} draws: {}", e.number())?,
     }
     Ok(())
 }
 
 fn run(rt: &HostRuntime, site: &Site) -> anyhow::Result<()> {
     let stack = stack(rt.alloc())?;
-    let Ok(mut robin) = RoundRobin::new(site.nodes()) else {
-        return Err(anyhow!("no daemon"));
-    };
+    let mut robin = RoundRobin::new(site.nodes()).map_err(|_| anyhow!("no daemon"))?;
     let mut net = Net::new(site, stack, 7);
     draw(&mut net, &mut robin, 59);
     let early = try_lift(&mut net);
@@ -94,55 +69,46 @@ fn run(rt: &HostRuntime, site: &Site) -> anyhow::Result<()> {
 }
 
 fn main(rt: HostRuntime) -> anyhow::Result<()> {
-    match build(rt.alloc(), 5, 0, &LINKS) {
-        Ok(site) => run(&rt, &site),
-        Err(_) => Err(anyhow!("no site")),
-    }
+    let site = build(rt.alloc(), 5, 0, &LINKS).map_err(|_| anyhow!("no site"))?;
+    run(&rt, &site)
 }
 
 #[cfg(test)]
 mod tests {
     use super::*;
     use daemon::script::Script;
+    use protocol::Output;
+    use report::room::Stack;
     use std::process::Abort;
     use std::test::*;
 
-    // What a node tells.
-    #[derive(Clone, Copy, PartialEq, Debug)]
-    struct Row {
-        parent: Option<u16>,
-        count: u16,
-        rank: u16,
-        mate: Option<u16>,
-    }
-
     // What the nodes tell at rest, worked out by hand: the tree, its branches, the tour, and the pairs that a round robin leaves.
-    const ROWS: [Row; 5] = [
-        Row {
+    const ROWS: [Output; 5] = [
+        Output {
             parent: None,
             count: 5,
             rank: 0,
             mate: Some(1),
         },
-        Row {
+        Output {
             parent: Some(0),
             count: 3,
             rank: 1,
             mate: Some(0),
         },
-        Row {
+        Output {
             parent: Some(0),
             count: 1,
             rank: 4,
             mate: Some(3),
         },
-        Row {
+        Output {
             parent: Some(1),
             count: 2,
             rank: 2,
             mate: Some(2),
         },
-        Row {
+        Output {
             parent: Some(3),
             count: 1,
             rank: 3,
@@ -158,20 +124,7 @@ mod tests {
         rounds: u32,
         awaited: usize,
         last_change: u32,
-        rows: [Option<Row>; 5],
-    }
-
-    // What a node of the net tells.
-    fn told_at<P: Silent>(net: &Net<P>, v: usize) -> Option<Row> {
-        match net.output(v) {
-            Ok(told) => Some(Row {
-                parent: told.parent,
-                count: told.count,
-                rank: told.rank,
-                mate: told.mate,
-            }),
-            Err(_) => None,
-        }
+        rows: [Option<Output>; 5],
     }
 
     // What a net of the stack comes to under a daemon.
@@ -184,13 +137,7 @@ mod tests {
             rounds: net.rounds(),
             awaited: net.awaited(),
             last_change: net.last_change(),
-            rows: [
-                told_at(&net, 0),
-                told_at(&net, 1),
-                told_at(&net, 2),
-                told_at(&net, 3),
-                told_at(&net, 4),
-            ],
+            rows: [0, 1, 2, 3, 4].map(|v| net.output(v).ok()),
         };
         let _ = net.into_protocol();
         seen
@@ -202,11 +149,8 @@ mod tests {
         assert_eq!(rt; seen.rounds, 12);
         assert_eq!(rt; seen.awaited, 5);
         for (v, row) in ROWS.iter().enumerate() {
-            let mate = match seen.rows[v] {
-                Some(told) => told.mate,
-                None => None,
-            };
-            assert_eq!(rt; seen.rows[v], Some(Row { mate, ..*row }), "node {v}");
+            let mate = seen.rows[v].and_then(|told| told.mate);
+            assert_eq!(rt; seen.rows[v], Some(Output { mate, ..*row }), "node {v}");
         }
         Ok(())
     }
@@ -228,10 +172,7 @@ mod tests {
     #[test]
     fn settles_by_script(rt: HostRuntime) -> Result<(), Fail> {
         let site = build(rt.alloc(), 5, 0, &LINKS)?;
-        let mut names = Vec::new(rt.alloc());
-        for v in [4, 4, 3, 2, 1, 0] {
-            names.push(v)?;
-        }
+        let names = Vec::from_array(rt.alloc(), [4, 4, 3, 2, 1, 0])?;
         let mut script = Script::owned(5, names)?;
         let seen = settled(stack(rt.alloc())?, &site, &mut script);
         rests(&rt, seen)?;

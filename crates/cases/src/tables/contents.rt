@@ -1,4 +1,5 @@
 //! Sheets that are declined in their contents lines, or right after them.
+use crate::desk::Refused;
 use crate::tables::{Case, Table};
 
 /// Contents lines, and bytes after them.
@@ -6,13 +7,11 @@ pub static CONTENTS: [Table; 1] = [Table {
     head: b"",
     cases: &[
         Case {
-            number: 0,
-            line: 0,
+            answer: Ok(()),
             tails: &[b"NODES;1\nLINKS;0\nFAULTS;0\nTURNS;0\n"],
         },
         Case {
-            number: 1,
-            line: 1,
+            answer: Err(Refused { number: 1, line: 1 }),
             tails: &[
                 b"",
                 b"\n",
@@ -49,8 +48,7 @@ pub static CONTENTS: [Table; 1] = [Table {
             ],
         },
         Case {
-            number: 2,
-            line: 1,
+            answer: Err(Refused { number: 2, line: 1 }),
             tails: &[
                 b"NODES;0\n",
                 b"NODES;257\n",
@@ -59,8 +57,7 @@ pub static CONTENTS: [Table; 1] = [Table {
             ],
         },
         Case {
-            number: 1,
-            line: 2,
+            answer: Err(Refused { number: 1, line: 2 }),
             tails: &[
                 b"NODES;1\n",
                 b"NODES;256\n",
@@ -74,16 +71,14 @@ pub static CONTENTS: [Table; 1] = [Table {
             ],
         },
         Case {
-            number: 2,
-            line: 2,
+            answer: Err(Refused { number: 2, line: 2 }),
             tails: &[
                 b"NODES;1\nLINKS;1025\n",
                 b"NODES;1\nLINKS;99999\nFAULTS;4097\nTURNS;1025\n",
             ],
         },
         Case {
-            number: 1,
-            line: 3,
+            answer: Err(Refused { number: 1, line: 3 }),
             tails: &[
                 b"NODES;1\nLINKS;1024\n",
                 b"NODES;1\nLINKS;0\nFAULTS;0",
@@ -93,13 +88,11 @@ pub static CONTENTS: [Table; 1] = [Table {
             ],
         },
         Case {
-            number: 2,
-            line: 3,
+            answer: Err(Refused { number: 2, line: 3 }),
             tails: &[b"NODES;1\nLINKS;0\nFAULTS;4097\n"],
         },
         Case {
-            number: 1,
-            line: 4,
+            answer: Err(Refused { number: 1, line: 4 }),
             tails: &[
                 b"NODES;1\nLINKS;0\nFAULTS;4096\n",
                 b"NODES;1\nLINKS;0\nFAULTS;0\nTURNS;0",
@@ -108,16 +101,14 @@ pub static CONTENTS: [Table; 1] = [Table {
             ],
         },
         Case {
-            number: 2,
-            line: 4,
+            answer: Err(Refused { number: 2, line: 4 }),
             tails: &[
                 b"NODES;1\nLINKS;0\nFAULTS;0\nTURNS;1025\n",
                 b"NODES;2\nLINKS;0\nFAULTS;0\nTURNS;1025\n",
             ],
         },
         Case {
-            number: 6,
-            line: 4,
+            answer: Err(Refused { number: 6, line: 4 }),
             tails: &[
                 b"NODES;2\nLINKS;0\nFAULTS;0\nTURNS;0\n",
                 b"NODES;256\nLINKS;0\nFAULTS;0\nTURNS;0\n",
@@ -126,8 +117,7 @@ pub static CONTENTS: [Table; 1] = [Table {
             ],
         },
         Case {
-            number: 1,
-            line: 5,
+            answer: Err(Refused { number: 1, line: 5 }),
             tails: &[
                 b"NODES;1\nLINKS;0\nFAULTS;0\nTURNS;0\n\n",
                 b"NODES;1\nLINKS;0\nFAULTS;0\nTURNS;0\n0",

@@ -1,4 +1,5 @@
 //! Sheets with fault lines.
+use crate::desk::Refused;
 use crate::tables::{Case, Table};
 
 /// Fault lines: a site of one node has five registers, one of three nodes and two links nineteen.
@@ -7,13 +8,11 @@ pub static FAULTS: [Table; 2] = [
         head: b"NODES;1\nLINKS;0\nFAULTS;3\nTURNS;0\n",
         cases: &[
             Case {
-                number: 0,
-                line: 0,
+                answer: Ok(()),
                 tails: &[b"0;0\n4;65535\n0;0\n", b"4;0\n4;0\n4;0\n"],
             },
             Case {
-                number: 1,
-                line: 5,
+                answer: Err(Refused { number: 1, line: 5 }),
                 tails: &[
                     b"",
                     b"0;0",
@@ -36,48 +35,39 @@ pub static FAULTS: [Table; 2] = [
                 ],
             },
             Case {
-                number: 2,
-                line: 5,
+                answer: Err(Refused { number: 2, line: 5 }),
                 tails: &[b"0;65536\n", b"4;99999\n", b"5;65536\n", b"99999;99999\n"],
             },
             Case {
-                number: 7,
-                line: 5,
+                answer: Err(Refused { number: 7, line: 5 }),
                 tails: &[b"5;0\n", b"5;65535\n", b"99999;0\n"],
             },
             Case {
-                number: 1,
-                line: 6,
+                answer: Err(Refused { number: 1, line: 6 }),
                 tails: &[b"0;0\n", b"0;0\n1;1", b"0;0\n1\n"],
             },
             Case {
-                number: 2,
-                line: 6,
+                answer: Err(Refused { number: 2, line: 6 }),
                 tails: &[b"0;0\n0;65536\n0;0\n"],
             },
             Case {
-                number: 7,
-                line: 6,
+                answer: Err(Refused { number: 7, line: 6 }),
                 tails: &[b"4;0\n5;0\n0;0\n"],
             },
             Case {
-                number: 1,
-                line: 7,
+                answer: Err(Refused { number: 1, line: 7 }),
                 tails: &[b"0;0\n1;1\n", b"0;0\n1;1\n2;2"],
             },
             Case {
-                number: 2,
-                line: 7,
+                answer: Err(Refused { number: 2, line: 7 }),
                 tails: &[b"0;0\n1;1\n2;65536\n"],
             },
             Case {
-                number: 7,
-                line: 7,
+                answer: Err(Refused { number: 7, line: 7 }),
                 tails: &[b"0;0\n1;1\n5;2\n"],
             },
             Case {
-                number: 1,
-                line: 8,
+                answer: Err(Refused { number: 1, line: 8 }),
                 tails: &[b"0;0\n1;1\n2;2\n3;3\n"],
             },
         ],
@@ -86,13 +76,11 @@ pub static FAULTS: [Table; 2] = [
         head: b"NODES;3\nLINKS;2\nFAULTS;1\nTURNS;0\n0;1\n1;2\n",
         cases: &[
             Case {
-                number: 0,
-                line: 0,
+                answer: Ok(()),
                 tails: &[b"18;65535\n"],
             },
             Case {
-                number: 7,
-                line: 7,
+                answer: Err(Refused { number: 7, line: 7 }),
                 tails: &[b"19;0\n"],
             },
         ],

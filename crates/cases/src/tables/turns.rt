@@ -1,4 +1,5 @@
 //! Sheets with turn lines.
+use crate::desk::Refused;
 use crate::tables::{Case, Table};
 
 /// Turn lines, after two link lines and after one.
@@ -7,13 +8,11 @@ pub static TURNS: [Table; 2] = [
         head: b"NODES;3\nLINKS;2\nFAULTS;0\nTURNS;3\n0;1\n1;2\n",
         cases: &[
             Case {
-                number: 0,
-                line: 0,
+                answer: Ok(()),
                 tails: &[b"0\n1\n2\n", b"2\n0\n1\n"],
             },
             Case {
-                number: 1,
-                line: 7,
+                answer: Err(Refused { number: 1, line: 7 }),
                 tails: &[
                     b"",
                     b"0",
@@ -33,33 +32,27 @@ pub static TURNS: [Table; 2] = [
                 ],
             },
             Case {
-                number: 8,
-                line: 7,
+                answer: Err(Refused { number: 8, line: 7 }),
                 tails: &[b"3\n", b"99999\n", b"3\n1\n2\n"],
             },
             Case {
-                number: 1,
-                line: 8,
+                answer: Err(Refused { number: 1, line: 8 }),
                 tails: &[b"0\n", b"0\n1"],
             },
             Case {
-                number: 8,
-                line: 8,
+                answer: Err(Refused { number: 8, line: 8 }),
                 tails: &[b"0\n3\n2\n"],
             },
             Case {
-                number: 1,
-                line: 9,
+                answer: Err(Refused { number: 1, line: 9 }),
                 tails: &[b"0\n1\n", b"0\n1\n2"],
             },
             Case {
-                number: 8,
-                line: 9,
+                answer: Err(Refused { number: 8, line: 9 }),
                 tails: &[b"0\n1\n3\n", b"0\n0\n3\n"],
             },
             Case {
-                number: 9,
-                line: 9,
+                answer: Err(Refused { number: 9, line: 9 }),
                 tails: &[
                     b"0\n1\n1\n",
                     b"1\n2\n2\n",
@@ -69,8 +62,10 @@ pub static TURNS: [Table; 2] = [
                 ],
             },
             Case {
-                number: 1,
-                line: 10,
+                answer: Err(Refused {
+                    number: 1,
+                    line: 10,
+                }),
                 tails: &[b"0\n1\n2\n0\n", b"0\n1\n2\n\n", b"0\n1\n2\n "],
             },
         ],
@@ -79,13 +74,11 @@ pub static TURNS: [Table; 2] = [
         head: b"NODES;2\nLINKS;1\nFAULTS;0\nTURNS;1\n0;1\n",
         cases: &[
             Case {
-                number: 8,
-                line: 6,
+                answer: Err(Refused { number: 8, line: 6 }),
                 tails: &[b"2\n"],
             },
             Case {
-                number: 9,
-                line: 6,
+                answer: Err(Refused { number: 9, line: 6 }),
                 tails: &[b"0\n", b"1\n"],
             },
         ],

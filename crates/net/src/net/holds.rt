@@ -1,4 +1,5 @@
 //! Holds taken, lifted and cancelled.
+ghost use Rattle.std.specs.Prelude.{◌≡◌, ◌==◌, ◌&&◌};
 ghost use Rattle.promise.specs.Nets.{cancel as Cancel, hold as TakeHold, lift as Lift};
 ghost use Rattle.net.specs.Calls.{Does, given_back, owed, taken};
 
@@ -28,14 +29,14 @@ impl<P: Silent> Net<'_, P> {
     pub fn lift(&mut self, hold: Hold) -> Result<Lifted, (Refusal, Hold)>
         ensures { Does P.Silent self.old (Lift (owed hold)) (given_back result) self.new }
     {
-        if hold.mark != self.mark || !self.held {
+        if !self.owns(&hold) {
             return Err((Refusal::Foreign, hold));
         }
         let bound = self.protocol.bound(self.site);
         if self.counters.rounds < bound {
             return Err((Refusal::Early, hold));
         }
-        let Hold { mark: _, badge: _ } = hold;
+        hold.close();
         self.held = false;
         Ok(Lifted {
             bound,
@@ -48,11 +49,18 @@ impl<P: Silent> Net<'_, P> {
     pub fn cancel(&mut self, hold: Hold) -> Result<(), (Refusal, Hold)>
         ensures { Does P.Silent self.old (Cancel (owed hold)) (given_back result) self.new }
     {
-        if !self.held || hold.mark != self.mark {
-            return Err((Refusal::Foreign, hold));
+        if self.owns(&hold) {
+            hold.close();
+            self.held = false;
+            return Ok(());
         }
-        let Hold { mark: _, badge: _ } = hold;
-        self.held = false;
-        Ok(())
+        Err((Refusal::Foreign, hold))
+    }
+
+    // Whether a hold is open, and this one has the net's mark.
+    fn owns(&self, hold: &Hold) -> bool
+        ensures { result ≡ (self.now.held && hold.now.mark == self.now.mark) }
+    {
+        self.held && hold.mark == self.mark
     }
 }

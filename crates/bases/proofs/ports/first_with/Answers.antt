@@ -1,25 +1,16 @@
-use Rattle.std.proofs.Common.{ℕ, Bool, eqb, Some, sym, refl, ◌∙◌}
-use Rattle.std.proofs.lemmas.Bool.{eq-eqb, ne_eqb}
-use Rattle.protocol.specs.First.{first}
-use Rattle.bases.specs.declared.block.Block.{Block}
-use Rattle.bases.specs.Blocks.{register}
-use Rattle.bases.proofs.Scans.{scan_found, scan_more, scan_all}
+use Rattle.std.proofs.Common.{ℕ, Bool, eqb, ◌∙◌, sym, rules, tests}
+use Rattle.std.proofs.lemmas.Iterator.{YieldsList-from_slice}
+use Rattle.std.proofs.lemmas.Iterator.Adapters.{option_map_id}
+use Rattle.std.proofs.lemmas.Iterator.Consumers.{YieldsList-from_copied}
+use Rattle.std.proofs.lemmas.Iterator.Search.{find_from_yields_List}
+use Rattle.registers.specs.Blocks.{register}
+use Rattle.bases.proofs.Scans.{find_first}
 use Rattle.bases.proofs.ports.first_with.Goals as goal
-
-abbrev has_value : Block → ℕ → ℕ → Bool
-has_value b x u = eqb (register b u) x
-
-pub returns-then-at-value : goal.returns-then-at-value
-returns-then-at-value c =
-    let p : ℕ → Bool = has_value c.args.block.now c.args.value in
-    scan_found (first p) p Some (λ x xs. refl) c.args.nodes.now c.loop-u.u-index c.loop-u.invariant c.loop-u-test.true (eq-eqb _ _ (sym c.at.ensures ∙ c.if-at-value.true))
-
-pub loop-u-preserved : goal.loop-u-preserved
-loop-u-preserved c =
-    let p : ℕ → Bool = has_value c.args.block.now c.args.value in
-    scan_more (first p) p Some (λ x xs. refl) c.args.nodes.now c.loop-u.u-index c.loop-u.invariant c.loop-u-test.true (ne_eqb _ _ (λ e. c.if-at-value.false (c.at.ensures ∙ e)))
 
 pub returns : goal.returns
 returns c =
-    let p : ℕ → Bool = has_value c.args.block.now c.args.value in
-    scan_all (first p) p Some (λ x xs. refl) c.args.nodes.now c.loop-u.u-index c.loop-u.invariant c.loop-u-test.false
+    let p : ℕ → Bool = λ u. eqb (register c.args.block.now u) c.args.value in
+    let ns = c.args.nodes.now in
+    sym (option_map_id c.find.result)
+    ∙ find_from_yields_List p _ _ c.find.result c.find.ensures.ran (YieldsList-from_copied (YieldsList-from_slice ns (cc))) (λ x b q k. search (rules, tests))
+    ∙ find_first p ns

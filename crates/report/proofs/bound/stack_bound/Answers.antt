@@ -1,4 +1,4 @@
-use Rattle.std.proofs.Common.{◌≡◌, ℕ, ◌+◌, ◌*◌, ◌/◌, ◌<◌, ◌≤◌, max, sym, ap, ◌∙◌, arith}
+use Rattle.std.proofs.Common.{◌≡◌, ℕ, ◌+◌, ◌*◌, ◌/◌, ◌<◌, ◌≤◌, max, sym, ap, ap₂, ◌∙◌, arith}
 use Rattle.graph.specs.Model.{height}
 use Rattle.graph.proofs.Heights.{height_below}
 use Rattle.protocol.proofs.StackLaws.{stack_stands_lem}
@@ -31,8 +31,8 @@ overflow_mul-pairs c = let h = nodes-low c.args.site.now in let e = c.nodes.ensu
 pub overflow_add-pairs : goal.overflow_add-pairs
 overflow_add-pairs c = let h = nodes-low c.args.site.now in let e = c.nodes.ensures in omega arith
 
-pub returns-then-tour-pairs : goal.returns-then-tour-pairs
-returns-then-tour-pairs c =
+pub returns : goal.returns
+returns c =
     let s = c.args.site.now in
     let h = height-low s in
     let n = nodes-low s in
@@ -40,19 +40,5 @@ returns-then-tour-pairs c =
     let f = c.nodes.ensures in
     let b = stack_stands_lem.bound (model s) in
     let d = ap (λ (k : ℕ). k / 2) f in
-    let taken = c.if-tour-pairs.true in
-    let x : 3 * (c.nodes.result / 2) + 1 ≡ max (3 * (height (model s) + 1)) (3 * ((model s).nodes / 2) + 1) = omega arith in
-    record { bound = x ∙ sym b; low = omega arith }
-
-pub returns-else-tour-pairs : goal.returns-else-tour-pairs
-returns-else-tour-pairs c =
-    let s = c.args.site.now in
-    let h = height-low s in
-    let n = nodes-low s in
-    let e = c.height.ensures.value in
-    let f = c.nodes.ensures in
-    let b = stack_stands_lem.bound (model s) in
-    let d = ap (λ (k : ℕ). k / 2) f in
-    let left = c.if-tour-pairs.false in
-    let x : 3 * (c.height.result + 1) ≡ max (3 * (height (model s) + 1)) (3 * ((model s).nodes / 2) + 1) = omega arith in
+    let x : c.max.result ≡ max (3 * (height (model s) + 1)) (3 * ((model s).nodes / 2) + 1) = c.max.ensures ∙ ap₂ max (omega arith) (omega arith) in
     record { bound = x ∙ sym b; low = omega arith }

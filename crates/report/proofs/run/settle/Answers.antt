@@ -1,14 +1,12 @@
 use Rattle.std.proofs.Common.{◌≡◌, ℕ, ◌<◌, List, length, Ok, vec_items, sym, subst, arith}
 use Rattle.std.proofs.lemmas.List.{length-map}
 use Rattle.std.proofs.lemmas.Bool.{eqb-false, eqb-true}
-use Rattle.refusal.specs.Checks.{Free}
-use Rattle.daemon.specs.ScriptChecks.{script_checks}
 use Rattle.daemon.specs.Scripts.{ScriptOwned}
 use Rattle.daemon.specs.ScriptSound.{free_below}
 use Rattle.text.specs.declared.records.TurnLine.{TurnLine}
 use Rattle.site.proofs.Whole.{proper}
 use Rattle.report.specs.Runs.{Ordered, names_of}
-use Rattle.report.proofs.Daemons.{few_names, none_named, robin_able, robin_ordered, script_able, script_free, script_made, script_ordered}
+use Rattle.report.proofs.Daemons.{few_names, none_named, robin_able, robin_ordered, script_able, script_free, script_ordered}
 use Rattle.report.proofs.run.settle.Goals as goal
 
 some-names : (ts : List TurnLine) → (length ts ≡ 0 → ⊥) → 0 < length (names_of ts)
@@ -17,23 +15,17 @@ some-names ts h = let e = length-map ts (λ (t : TurnLine). t.node.value) in ome
 pub draw-requires : goal.draw-requires
 draw-requires g c = robin_able g.P.Silent c.args.net.now c.args.nodes c.in-Ok.robin c.in-Ok.ensures c.requires.nodes c.requires.fresh c.requires.low
 
-pub nodes_of-requires : goal.nodes_of-requires
-nodes_of-requires g c =
+pub nodes_of-requires-clause-few : goal.nodes_of-requires-clause-few
+nodes_of-requires-clause-few g c =
     let some = some-names c.args.turns.now (eqb-false _ _ (sym c.if-is_empty.ensures)) in
     let free = script_free c.args.nodes (names_of c.args.turns.now) some c.requires.script in
     let few = (proper c.args.net.now.site.now).drawn.limit in
     let same = c.requires.nodes in
-    record { room = c.requires.room; few = few_names c.args.nodes c.args.turns.now (free_below c.args.nodes (names_of c.args.turns.now) free) (omega arith) }
+    few_names c.args.nodes c.args.turns.now (free_below c.args.nodes (names_of c.args.turns.now) free) (omega arith)
 
-pub draw-requires-in-Ok-owned : goal.draw-requires-in-Ok-owned
-draw-requires-in-Ok-owned g c =
+pub draw-requires-else-is_empty : goal.draw-requires-else-is_empty
+draw-requires-else-is_empty g c =
     script_able g.P.Silent c.args.net.now c.args.nodes (vec_items c.nodes_of.result) c.in-Ok-owned.script c.in-Ok-owned.ensures c.requires.nodes c.requires.fresh c.requires.low
-
-pub unreachable-requires-in-Err-owned : goal.unreachable-requires-in-Err-owned
-unreachable-requires-in-Err-owned g c =
-    let some = some-names c.args.turns.now (eqb-false _ _ (sym c.if-is_empty.ensures)) in
-    let free = script_free c.args.nodes (names_of c.args.turns.now) some c.requires.script in
-    script_made c.args.nodes (vec_items c.nodes_of.result) c.in-Err-owned.field-0 (subst (λ (ns : List ℕ). Free (script_checks c.args.nodes ns)) (sym c.nodes_of.ensures) free) c.in-Err-owned.ensures
 
 pub returns-in-Ok : goal.returns-in-Ok
 returns-in-Ok g c =
@@ -43,7 +35,7 @@ returns-in-Ok g c =
 
 pub returns-in-Ok-owned : goal.returns-in-Ok-owned
 returns-in-Ok-owned g c =
-    let course = c.draw-in-Ok-owned.ensures in
+    let course = c.draw-else-is_empty.ensures in
     let some = some-names c.args.turns.now (eqb-false _ _ (sym c.if-is_empty.ensures)) in
     let made = subst (λ (ns : List ℕ). ScriptOwned c.args.nodes ns (Ok c.in-Ok-owned.script)) c.nodes_of.ensures c.in-Ok-owned.ensures in
-    (course.0, subst (λ (n : ℕ). Ordered n (names_of c.args.turns.now) course.0) c.requires.nodes (script_ordered c.args.nodes (names_of c.args.turns.now) course.0 c.in-Ok-owned.script c.draw-in-Ok-owned.new.daemon some made course.1), course.2)
+    (course.0, subst (λ (n : ℕ). Ordered n (names_of c.args.turns.now) course.0) c.requires.nodes (script_ordered c.args.nodes (names_of c.args.turns.now) course.0 c.in-Ok-owned.script c.draw-else-is_empty.new.daemon some made course.1), course.2)

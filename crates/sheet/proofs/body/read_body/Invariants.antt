@@ -3,7 +3,7 @@ use Rattle.text.specs.Spots.{spot}
 use Rattle.sheet.specs.Body.{Front}
 use Rattle.sheet.proofs.body.read_body.Given as goal
 
-abbrev pub invariant-loop-i : goal.invariant-loop-i
-invariant-loop-i g l =
-    ((k : ℕ) → g.R.SheetLine.Holds l.initial.into k [] → g.R.SheetLine.Holds l.into k (take l.i l.list) × Front g.R.WriteLine.bytes g.R.SheetLine.checks k (take l.i l.list) (spot l.initial.rd) (spot l.rd))
-    × (drop l.i l.list ≡ drop l.i l.initial.list)
+abbrev pub invariant-loop-entry : goal.invariant-loop-entry
+invariant-loop-entry g l =
+    ((k : ℕ) → g.R.SheetLine.Holds l.initial.into k [] → g.R.SheetLine.Holds l.into k (take l.entry-index l.entry-items) × Front g.R.WriteLine.bytes g.R.SheetLine.checks k (take l.entry-index l.entry-items) (spot l.initial.rd) (spot l.rd))
+    × (drop l.entry-index l.entry-items ≡ drop l.entry-index l.initial.entry-items)

@@ -8,5 +8,5 @@ use Rattle.sheet.proofs.check.check_contents.Goals as goal
 
 pub returns : goal.returns
 returns c =
-    contents_checked c.args.ns c.check_body.result
-    (subst (λ (hs : List ContentsLine). BodyChecked contents_bytes contents_rules 0 hs 0 c.check_body.result) c.heads_of-heads.ensures (c.check_body.ensures.checked 0 c.new-progress.ensures))
+    contents_checked c.args.contents c.check_body.result
+    (subst (λ (hs : List ContentsLine). BodyChecked contents_bytes contents_rules 0 hs 0 c.check_body.result) c.heads-heads.ensures (c.check_body.ensures.checked 0 c.new-progress.ensures))

@@ -1,5 +1,5 @@
-use Rattle.std.proofs.Common.{◌≡◌, ℕ, ◌<◌, ◌≤◌, get_or, take}
+use Rattle.std.proofs.Common.{◌≡◌, ℕ, ◌<◌, get_or}
 use Rattle.sheet.proofs.read.clear.Given as goal
 
-abbrev pub invariant-loop-i : goal.invariant-loop-i
-invariant-loop-i g l = (take l.from l.list ≡ take l.from l.initial.list) × ((k : ℕ) → l.from ≤ k → k < l.i → get_or l.list k g.R.ReadLine.zero ≡ g.R.ReadLine.zero)
+abbrev pub invariant-loop-entry : goal.invariant-loop-entry
+invariant-loop-entry g l = (k : ℕ) → k < l.entry-index → get_or l.entry-items k g.R.ReadLine.zero ≡ g.R.ReadLine.zero

@@ -1,24 +1,12 @@
-use Rattle.std.proofs.Common.{◌≡◌, length, take, ap, ◌∙◌, arith}
-use Rattle.std.proofs.lemmas.List.{take_all}
-use Rattle.text.specs.Written.{lines_of}
-use Rattle.text.proofs.Written.{length_more, piece}
+use Rattle.std.proofs.Common.{zero-add, subst, rules, arith}
+use Rattle.text.specs.Written.{Within}
+use Rattle.std.proofs.iter.Yields.{fronts}
+use Rattle.std.proofs.lemmas.Iterator.{YieldsList-from_slice}
+use Rattle.text.proofs.Written.{counted}
 use Rattle.text.proofs.lines.lines_size.Goals as goal
-
-pub returns-then-n-most : goal.returns-then-n-most
-returns-then-n-most g c =
-    let p = piece g.L.WriteLine.bytes c.args.lines.now c.loop-line.line-index c.line-item.result c.loop-line-test.true c.line-item.is in
-    let inv = c.loop-line.invariant in
-    let size = c.size-n.ensures in
-    omega arith
-
-pub loop-line-preserved : goal.loop-line-preserved
-loop-line-preserved g c =
-    let more = length_more g.L.WriteLine.bytes c.args.lines.now c.loop-line.line-index c.line-item.result c.loop-line-test.true c.line-item.is in
-    let inv = c.loop-line.invariant in
-    let size = c.size-n.ensures in
-    (omega arith, omega arith)
 
 pub returns : goal.returns
 returns g c =
-    let all : take c.loop-line.line-index c.args.lines.now ≡ c.args.lines.now = take_all c.loop-line.line-index c.args.lines.now c.loop-line-test.false in
-    (c.loop-line.invariant.0 ∙ ap (λ xs. length (lines_of g.L.WriteLine.bytes xs)) all, c.loop-line.invariant.1)
+    let a = c.try_fold.ensures.ran in
+    subst (λ n. Within n c.args.most c.try_fold.result) (zero-add _)
+    (counted g.L.WriteLine.bytes fronts (λ y. y.now) _ c.args.most _ (λ n x r q h. search rules) _ c.args.lines.now c.iter.result (YieldsList-from_slice {s = c.iter.result} c.args.lines.now c.iter.ensures.rest).runs 0 (omega arith) c.try_fold.result c.try_fold.new.self a.0 a.1 a.2 a.3 a.4.0 a.4.1 a.4.2 a.5 a.6)

@@ -1,9 +1,6 @@
-use Rattle.std.proofs.Common.{◌++◌, refl, ap}
-use Rattle.layers.specs.Fronts.{front_zero}
+use Rattle.std.proofs.Common.{◌++◌, ap}
+use Rattle.registers.specs.Fronts.{front_zero}
 use Rattle.layers.proofs.over.Over.new.Goals as goal
 
-pub returns : goal.returns
-returns g c = record {
-  plan = refl;
-  registers = λ m n l. ap (λ zs. g.P.Silent.registers c.args.below m ++ zs) (front_zero n l c.in_ok-own.own c.in_ok-own.ensures);
-}
+pub returns-clause-registers : goal.returns-clause-registers
+returns-clause-registers g c = λ m ok. ap (λ zs. g.P.Silent.registers c.args.below m ++ zs) (front_zero (g.L.Layer.meaning m).size c.in_ok-own.own (g.met.L.Layer.room m ok) c.in_ok-own.ensures)

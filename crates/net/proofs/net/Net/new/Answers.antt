@@ -8,8 +8,8 @@ use Rattle.net.proofs.net.Net.new.Goals as goal
 pub returns : goal.returns
 returns g c =
     let s = c.args.site.now in
-    let few = s.few in
     let whole = proper s in
+    let few = whole.drawn.limit in
     record {
       starts = (
         refl,

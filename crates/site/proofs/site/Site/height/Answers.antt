@@ -5,7 +5,5 @@ use Rattle.site.specs.Sites.{model}
 use Rattle.site.proofs.Whole.{proper}
 use Rattle.site.proofs.site.Site.height.Goals as goal
 
-pub returns : goal.returns
-returns c =
-    let s = c.args.self.now in
-    record { value = s.highest; greatest = subst (Greatest (model s)) (sym s.highest) (height_is (model s) (proper s)) }
+pub returns-clause-greatest : goal.returns-clause-greatest
+returns-clause-greatest c = let s = c.args.self.now in subst (Greatest (model s)) (sym s.highest) (height_is (model s) (proper s))
