@@ -29,6 +29,7 @@ pub fn held_node(nodes: &[u16], value: u16) -> Option<u16>
     node_in(value).filter(|u| nodes.contains(u))
 }
 
+// 0 for no nodes, as `least_of` says.
 /// The least of the registers of the nodes; 0 if there are none.
 pub fn least(block: &Block<NODES>, nodes: &[u16]) -> u16
     ensures { result ≡ least_of (register block.now) nodes.now }

@@ -70,6 +70,7 @@ impl Silent for Tree {
     ghost laws = { λ _ m p. tree_laws m p };
 
     fn turn(&mut self, site: &Site, v: usize) -> Result<bool, Refusal> {
+        // Each call declines by itself: a call for one comparison would say no more.
         if v >= site.nodes() {
             return Err(Refusal::Node);
         }
@@ -81,6 +82,7 @@ impl Silent for Tree {
     }
 
     fn write(&mut self, site: &Site, place: u64, value: u16) -> Result<(), Refusal> {
+        // Three ranges of places, so a chain of `if`s.
         let n = site.nodes() as u64;
         if place < n {
             self.distances.put(place as usize, value);
@@ -94,6 +96,7 @@ impl Silent for Tree {
     }
 
     fn read(&self, site: &Site, place: u64) -> Result<u16, Refusal> {
+        // Three ranges of places, as in writing.
         let n = site.nodes() as u64;
         if place < n {
             Ok(self.distances.at(place as usize))

@@ -108,6 +108,7 @@ fn spans(
     some: [(usize, usize); 5],
     height: usize,
 ) -> Result<(), Fail> {
+    // Without a site the test fails.
     let Some(site) = &desk.site else {
         return Err(Fail::new("no site"));
     };

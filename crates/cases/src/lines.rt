@@ -1,5 +1,5 @@
 //! Lines: numbers and fields, lines written, lines read.
-use crate::desk::number;
+use crate::desk::{link, number};
 use std::alloc::Global;
 use std::process::Abort;
 use std::test::*;
@@ -139,16 +139,13 @@ fn next_link(rd: &mut Reader) -> Result<LinkLine, ScanFault> {
 // Lines one after the other, with their numbers.
 fn reads(rt: &impl Abort) -> Result<(), Fail> {
     let mut rd = Reader::new(b"0;9\n10;2\n7\n3");
-    assert!(rt; matches!(rd.end(), Err(ScanFault::Trailing(1))));
-    assert!(rt; matches!(next_link(&mut rd), Ok(_)));
-    match next_link(&mut rd) {
-        Ok(x) => assert!(rt; x.a.get() == 10 && x.b.get() == 2),
-        Err(_) => return Err(Fail::new("a link")),
-    }
+    assert_eq!(rt; rd.end(), Err(ScanFault::Trailing(1)));
+    assert_eq!(rt; next_link(&mut rd), Ok(link(0, 9)));
+    assert_eq!(rt; next_link(&mut rd), Ok(link(10, 2)));
     assert_eq!(rt; rd.lines(), 2);
-    assert!(rt; matches!(next_link(&mut rd), Err(ScanFault::Form(3))));
-    assert!(rt; matches!(next_link(&mut rd), Err(ScanFault::Lacking(4))));
-    assert!(rt; matches!(Reader::new(b"").end(), Ok(_)));
+    assert_eq!(rt; next_link(&mut rd), Err(ScanFault::Form(3)));
+    assert_eq!(rt; next_link(&mut rd), Err(ScanFault::Lacking(4)));
+    assert_eq!(rt; Reader::new(b"").end(), Ok(()));
     Ok(())
 }
 

@@ -133,6 +133,7 @@ fn ported(rt: &impl Abort, site: &Site) -> Result<(), Fail> {
 
 // The site of a sheet.
 fn told(rt: &impl Abort, desk: &Desk) -> Result<(), Fail> {
+    // Without a site the test fails.
     let Some(site) = &desk.site else {
         return Err(Fail::new("no site"));
     };
@@ -161,6 +162,7 @@ fn five_nodes(rt: HostRuntime) -> Result<(), Fail> {
 
 // The number of the refusal to build a site, if it is declined.
 fn built(heap: Global, plan: &Plan) -> Result<Option<u8>, Fail> {
+    // By cases: want of memory fails the test.
     match build(heap, plan.nodes, plan.root, plan.links) {
         Ok(_) => Ok(None),
         Err(Fault::Refused(e)) => Ok(Some(e.number())),

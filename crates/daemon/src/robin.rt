@@ -49,6 +49,7 @@ impl Daemon for RoundRobin {
         ensures asks { RobinAsked self.old result self.new }
     {
         let v = self.next;
+        // As its definition says it; a remainder would say the same.
         self.next = if v + 1 < self.nodes { v + 1 } else { 0 };
         v
     }

@@ -8,7 +8,7 @@ use Rattle.silent.specs.Answers.{Told}
 use Rattle.protocol.specs.Protocols.{Protocol}
 use Rattle.layers.specs.Below.{child_told, is_child}
 use Rattle.layers.proofs.Children.{child_here}
-use Rattle.std.proofs.lemmas.List.{at_drop_more, at_drop_all}
+use Rattle.std.proofs.lemmas.List.{at_drop_more}
 use Rattle.std.proofs.lemmas.Bool.{cond-true, cond-false, eq-eqb, ne_eqb}
 use Rattle.std.proofs.lemmas.Bool.Decides.{eqb_tells}
 use Rattle.lists.specs.Members.{Among}
@@ -90,9 +90,6 @@ module _ (n : ℕ) (t : ℕ → Output) (v : ℕ) where
         next (slots n t v y rest) x
         ∙ ap₂ (λ (a : ℕ) (zs : List ℕ). put xs (first + j) (a ∷ zs)) a (ap (λ (z : ℕ). slots n t v z rest) b ∙ slots_cap rest (r + (t here).count))
         ∙ fill_one true (sym some.0 ∙ child_here n t v here inside)
-
-  pub fill_all : (ps xs whole : List ℕ) (first j r : ℕ) → put xs (first + j) (slots n t v r (drop j ps)) ≡ whole → length ps ≤ j → xs ≡ whole
-  fill_all ps xs whole first j r inv l = sym (at_drop_all (λ zs. put xs (first + j) (slots n t v r zs)) ps j l) ∙ inv
 
 -- the parent that a node tells
 pub parent_told :

@@ -2,12 +2,10 @@
 use Rattle.std.proofs.Common.{◌≡◌, ℕ, Bool, ◌||◌, List, ◌++◌, length, Ok, sym, ap, ◌∙◌, ap₂}
 use Rattle.std.proofs.lemmas.List.{take_at, drop_at}
 use Rattle.graph.specs.Model.{Model}
-use Rattle.protocol.specs.declared.Output.{Output}
-use Rattle.protocol.specs.Outputs.{with_mate}
 use Rattle.protocol.specs.Layers.{Layer, layered, under, over, then_turn}
 use Rattle.protocol.specs.Beside.{beside}
 use Rattle.protocol.specs.Protocols.{Protocol, Laws, Registers}
-use Rattle.silent.specs.Answers.{Turned, Told}
+use Rattle.silent.specs.Answers.{Turned}
 use Rattle.registers.specs.Lists.{Changed}
 use Rattle.registers.specs.Fronts.{either_changed}
 
@@ -17,15 +15,6 @@ module _ (m : Model) (p : Protocol) (b o : List ℕ) (sized : Registers p.size b
 
   over_is : over p (b ++ o) ≡ o
   over_is = drop_at b o p.size sized.0
-
-  first_told : (v : ℕ) (out : Output) → out ≡ p.output b v → out ≡ p.output (under p (b ++ o)) v
-  first_told v out e = e ∙ ap (λ (zs : List ℕ). p.output zs v) (sym under_is)
-
-  pub layer_told : (a : Layer) (v : ℕ) (out : Output) (x : a.Value) → Told m p v b (Ok out) → x ≡ a.value o v → Told m (layered m a p) v (b ++ o) (Ok (a.tell out x))
-  layer_told a v out x h e = (h.0, ap₂ a.tell (first_told v out h.1) (e ∙ ap (λ (zs : List ℕ). a.value zs v) (sym over_is)))
-
-  pub beside_told : (q : Protocol) (v : ℕ) (out other : Output) → Told m p v b (Ok out) → Told m q v o (Ok other) → Told m (beside p q) v (b ++ o) (Ok (with_mate out other.mate))
-  beside_told q v out other h k = (h.0, ap₂ with_mate (first_told v out h.1) (ap (λ (t : Output). t.mate) (k.1 ∙ ap (λ (zs : List ℕ). q.output zs v) (sym over_is))))
 
   -- the first part is turned, and then the other
   module _ (law : Laws m p) (v : ℕ) (r s : Bool) (c d : List ℕ) (turned : Turned m p v b (Ok r) c) (changed : Changed o s d) where

@@ -25,6 +25,7 @@ pub trait Layer: Sized {
     fn size(site: &Site) -> u32
         ensures { result ≡ (meaning (model site.now)).size };
 
+    // `own` stands apart from `below`: a turn writes it, and all else only reads it.
     /// A node's turn, by what is told below after its turn there: whether a register of the layer changed.
     fn turn<P: Silent>(below: &P, own: &mut Block<ROOM>, site: &Site, v: usize) -> bool
         ensures { v < (model site.now).nodes → Ruled (meaning (model site.now)) (told P.Silent below.now (model site.now)) v own.old result own.new };

@@ -63,7 +63,7 @@ impl<P: Silent, L: Layer> Silent for Over<P, L> {
         Ok(moved | joined)
     }
 
-    // the steps of Beside, but to a block, which declines nothing: as a protocol it would need refusals and laws of its own
+    // The steps of Beside over a block, which declines nothing: as a protocol it would need refusals and laws of its own.
     fn write(&mut self, site: &Site, place: u64, value: u16) -> Result<(), Refusal> {
         if place >= self.size(site) {
             return Err(Refusal::Place);

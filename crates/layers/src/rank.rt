@@ -22,7 +22,7 @@ pub struct Preorder;
 /// The numbers of a preorder over a protocol.
 pub type Rank<P> = Over<P, Preorder>;
 
-// the port that leads to v; how many there are if none does, as the meaning has it
+// the port that leads to v; how many there are if none does, as `port_to` says
 fn find_port(ports: &[u16], v: usize) -> usize
     ensures { result ≡ port_to v ports.now }
 {

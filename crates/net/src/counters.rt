@@ -4,6 +4,7 @@ ghost use Rattle.net.specs.Marking.{has};
 
 use crate::marks::Marks;
 
+// 0 and no `Option` for no change: rounds begin with 1, and 0 is what is told.
 /// The turns, the complete rounds, the number of the last round in which a register changed or 0,
 /// and the nodes that the open round has named; of so many nodes.
 #[derive(Clone, Copy)]

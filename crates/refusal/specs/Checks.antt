@@ -33,9 +33,3 @@ abbrev pub Made : {A : Type 0} → Checks → (A → Type 0) → Result A Fault 
 Made cs Holds (Ok a) = Free cs × Holds a
 Made cs Holds (Err (Refused e)) = First cs e
 Made cs Holds (Err Memory) = Free cs
-
--- no fault but want of memory
-abbrev pub OnlyMemory : {A : Type 0} → Result A Fault → Type 0
-OnlyMemory (Ok a) = Unit {0}
-OnlyMemory (Err (Refused e)) = ⊥
-OnlyMemory (Err Memory) = Unit {0}

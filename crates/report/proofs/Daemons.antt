@@ -1,9 +1,8 @@
 -- The daemon of a sheet: it is made, it gives every node its turns in time, and it names the nodes in order.
-use Rattle.std.proofs.Common.{◌≡◌, ℕ, ◌+◌, ◌%◌, ◌<◌, ◌≤◌, List, [], ◌∷◌, length, get_or, Ok, Err, sym, refl, ap, ◌∙◌, inl, inr, ⊎_elim, arith}
+use Rattle.std.proofs.Common.{◌≡◌, ℕ, ◌+◌, ◌%◌, ◌<◌, ◌≤◌, List, [], ◌∷◌, length, get_or, Ok, sym, refl, ap, ◌∙◌, inl, inr, ⊎_elim, arith}
 use Rattle.std.specs.List.{AllByRecursion}
 use Rattle.std.proofs.lemmas.Nat.{mul-le}
 use Rattle.std.proofs.lemmas.Bool.{cases_lt}
-use Rattle.refusal.specs.declared.Refusal.{Refusal}
 use Rattle.refusal.specs.Checks.{Free}
 use Rattle.lists.specs.Members.{Among}
 use Rattle.text.specs.declared.records.TurnLine.{TurnLine}
@@ -16,11 +15,9 @@ use Rattle.daemon.specs.Scripts.{ScriptAsked, ScriptOwned}
 use Rattle.daemon.specs.Scripts as scripts
 use Rattle.daemon.specs.declared.robin.RoundRobin.{RoundRobin}
 use Rattle.daemon.specs.declared.script.Script.{Script}
-use Rattle.daemon.specs.contracts.robin.RoundRobinDaemon.TheImpl as robin
 use Rattle.daemon.specs.contracts.script.ScriptDaemon.TheImpl as script
 use Rattle.daemon.proofs.OrdersLaws.{robin_order, script_order}
 use Rattle.promise.specs.Nets.{Fresh}
-use Rattle.promise.proofs.Checked.{free_first}
 use Rattle.net.specs.declared.net.Net.{Net}
 use Rattle.net.specs.Calls.{at, meant, state}
 use Rattle.net.specs.Settling.{Able}
@@ -34,12 +31,6 @@ pub none_named : (ts : List TurnLine) → length ts ≤ 0 → names_of ts ≡ []
 none_named [] l = refl
 none_named (t ∷ ts) l = absurd (omega arith)
 
-pub robin_able : {X : Type 0} (g : Ghosts X) (a : Net X) (n : ℕ) (d : RoundRobin) → RobinMade n (Ok d) → n ≡ (at a).nodes → Fresh (at a).nodes (state g a) → told_bound (meant g a) ≤ 768 → Able g robin.ghosts a d
-robin_able g a n d made same fresh low =
-    let few = d.few in
-    let most = mul-le d.nodes (told_bound (meant g a)) 256 768 few low in
-    record { fresh = fresh; nodes = made.1.0 ∙ same; turns = omega arith }
-
 pub robin_ordered : (n : ℕ) (names vs : List ℕ) (d y : RoundRobin) → RobinMade n (Ok d) → names ≡ [] → Run RobinAsked d vs y → Ordered n names vs
 robin_ordered n names vs d y made none asked = λ k l.
     robin_order d y vs asked k l ∙ ap (λ i. i % d.nodes) (from_first d.next k made.1.1) ∙ ap (λ m. k % m) made.1.0 ∙ ap (λ ns. named n ns k) (sym none)
@@ -52,9 +43,6 @@ script_free n (x ∷ xs) l h = h
 named_script : (n : ℕ) (names : List ℕ) (k : ℕ) → 0 < length names → named n names k ≡ get_or names (k % length names) 0
 named_script n [] k l = absurd (omega arith)
 named_script n (x ∷ xs) k l = refl
-
-pub script_made : (n : ℕ) (names : List ℕ) (r : Refusal) → Free (script_checks n names) → ScriptOwned n names (Err r) → ⊥
-script_made n names r free declined = free_first (script_checks n names) r free declined
 
 pub script_able : {X : Type 0} (g : Ghosts X) (a : Net X) (n : ℕ) (names : List ℕ) (d : Script) → ScriptOwned n names (Ok d) → n ≡ (at a).nodes → Fresh (at a).nodes (state g a) → told_bound (meant g a) ≤ 768 → Able g script.ghosts a d
 script_able g a n names d made same fresh low =

@@ -1,13 +1,12 @@
 -- The answer stands on the page, whichever way reading went.
 use Rattle.std.proofs.Common.{ℕ, ◌<◌, List, Ok, Err, Option, Result, subst}
-use Rattle.refusal.specs.Numbers.{number_of}
 use Rattle.refusal.specs.declared.Refusal.{Refusal}
 use Rattle.site.specs.declared.site.Site.{Site}
 use Rattle.sheet.specs.Judge.{Lists}
 use Rattle.report.specs.declared.fault.ProgramFault.{ProgramFault}
 use Rattle.report.specs.declared.fault.ProgramFault.TheVariants.{Sheet}
-use Rattle.report.specs.Answers.{Answered, Bounded, Put, bound_line, refusal_line}
-use Rattle.report.specs.Faults.{program_cause, program_line}
+use Rattle.report.specs.Answers.{Answered, Bounded, Put, bound_line}
+use Rattle.report.specs.Faults.{program_line}
 use Rattle.report.proofs.LineLow.{line_low}
 
 module _ (bytes : List ℕ) (l : Lists) (a : Option Site) (m : Lists) (z : Option Site) where
@@ -17,6 +16,3 @@ module _ (bytes : List ℕ) (l : Lists) (a : Option Site) (m : Lists) (z : Optio
   module _ (page after : List ℕ) (r : Result ℕ Refusal) where
     pub told_bound : (b : ℕ) → Bounded bytes l a (Ok b) m z → Put (bound_line b) page r after → Answered bytes l a page r m z after
     told_bound b h p = (Ok h.0, h.1, subst (λ (k : ℕ). Put (bound_line k) page r after) h.2 p)
-
-    pub told_refusal : (e : ProgramFault) → Bounded bytes l a (Err e) m z → Put (refusal_line (number_of (program_cause e)) (program_line e)) page r after → Answered bytes l a page r m z after
-    told_refusal (Sheet e) h p = (Err e, h, p)

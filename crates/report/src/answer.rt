@@ -28,7 +28,10 @@ fn small(value: u32) -> Number
     requires { value < 100000 }
     ensures { result.value ≡ value }
 {
-    Number::new(value).unwrap_or(Number::zero())
+    let Some(number) = Number::new(value) else {
+        unreachable()
+    };
+    number
 }
 
 // The line of a declined sheet.
@@ -65,6 +68,7 @@ pub fn answer(
 ) -> Result<usize, Refusal>
     ensures { Answered bytes.now (given lists.entry) site.old page.old result (left lists.exit) site.new page.new }
 {
+    // Made anew, as for the bound.
     let Lists {
         links,
         faults,

@@ -7,7 +7,7 @@ use refusal::Refusal;
 use sheet::fault::SheetFault;
 
 /// Why the program has nothing to report.
-#[derive(Clone, Copy)]
+#[derive(Clone, Copy, PartialEq, Eq, Debug)]
 pub enum ProgramFault {
     /// The sheet is declined: its fault, whole.
     Sheet(SheetFault),

@@ -31,6 +31,7 @@ pub fn stack(heap: Global) -> Result<Stack, AllocError>
 pub struct Room {
     pub(crate) site: SiteRoom,
     pub(crate) stack: Stack,
+    // Full, though they are cleared before use: their number is what is known of the memory.
     pub(crate) names: Vec<u16>,
     ghost blank: { Blank stack },
     ghost many: { vec_len names ≡ 1024 },

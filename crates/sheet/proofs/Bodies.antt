@@ -17,9 +17,6 @@ module _ {X : Type 0} (bytes : X → List ℕ) (rules : Rules X) (k : ℕ) where
   good_push before (y ∷ xs) x g f =
       (g.0, good_push (before ++ (y ∷ [])) xs x g.1 (subst (λ (b : List X). Free (rules k b x)) (sym (append_assoc before (y ∷ []) xs)) f))
 
-  pub front_none : (p : Spot) → Front bytes rules k [] p p
-  front_none p = record { text = refl; lines = omega arith; good = tt }
-
   pub front_more : (xs : List X) (x : X) (p q z : Spot) → Front bytes rules k xs p q → Takes bytes q x z → Free (rules k xs x) → Front bytes rules k (xs ++ (x ∷ [])) p z
   front_more xs x p q z f t free =
       let l = f.lines in

@@ -4,7 +4,7 @@ use Rattle.std.proofs.lemmas.List.{map-append}
 use Rattle.refusal.specs.declared.Refusal.{Refusal}
 use Rattle.refusal.specs.Checks.{First, Free}
 use Rattle.graph.specs.Model.{Model, Proper, Reached}
-use Rattle.site.specs.Entering.{bare, link_checks, with_link}
+use Rattle.site.specs.Entering.{link_checks, with_link}
 use Rattle.site.specs.Entering.{Entered as Linked, Finished}
 use Rattle.site.specs.Sites.{draft, model}
 use Rattle.site.specs.declared.builder.SiteBuilder.{SiteBuilder}
@@ -21,10 +21,6 @@ use Rattle.sheet.specs.Kinds.{ends, link_rules, site_of}
 use Rattle.sheet.specs.declared.contents.Contents.{Contents}
 use Rattle.sheet.specs.declared.fault.SheetFault.TheVariants.{Refused}
 use Rattle.sheet.proofs.Stops.{links_pass, links_unreached}
-
--- a site without links, of as many nodes as the contents say
-pub unlinked : (ns : Contents) (n : ℕ) (m : Model) → m ≡ bare n 0 → n ≡ ns.nodes.value → m ≡ site_of ns.nodes.value []
-unlinked ns n m e k = e ∙ ap (λ (j : ℕ). bare j 0) k
 
 one_more : (k : ℕ) (before : List LinkLine) (x : LinkLine) → with_link (site_of k before) x.a.value x.b.value ≡ site_of k (before ++ (x ∷ []))
 one_more k before x = ap (λ (ls : List (ℕ × ℕ)). record { nodes = k; root = 0; links = ls }) (sym (map-append ends before (x ∷ [])))

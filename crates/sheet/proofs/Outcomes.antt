@@ -1,19 +1,14 @@
 -- The outcome of a whole sheet from those of its parts.
 use Rattle.std.proofs.Common.{◌≡◌, ℕ, ◌<◌, List, length, Ok, Option, Result, refl, subst, inl, inr}
-use Rattle.refusal.specs.declared.Refusal.TheVariants.{Limit}
 use Rattle.site.specs.declared.site.Site.{Site}
 use Rattle.text.specs.Spots.{Spot}
 use Rattle.sheet.specs.declared.contents.Contents.{Contents}
 use Rattle.sheet.specs.declared.fault.SheetFault.{SheetFault}
-use Rattle.sheet.specs.declared.fault.SheetFault.TheVariants.{Refused}
 use Rattle.sheet.specs.Body.{passed, refused}
 use Rattle.sheet.specs.Judge.{Accepts, Declines, Lists, contents, lines, start}
 use Rattle.sheet.specs.Sheets.{Cleared, Judged, ReadSheet, Room, Sited, front}
 use Rattle.sheet.proofs.Exactly.{back, exactly}
 use Rattle.sheet.proofs.Judgement.{sole}
-
-pub too_large : (bytes : List ℕ) → 65536 < length bytes → Declines bytes (Refused Limit 0)
-too_large bytes over = inl (over, refl)
 
 module _ (bytes : List ℕ) (small : 65536 < length bytes → ⊥) (p : Spot) (at : p ≡ start bytes) where
   pub contents_stop : (e : SheetFault) → contents p (refused e) → Declines bytes e

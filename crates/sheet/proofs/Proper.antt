@@ -2,17 +2,17 @@
 use Rattle.std.proofs.Common.{◌≡◌, ℕ, ◌+◌, ◌<◌, ◌≤◌, List, length, take, drop, Some, None, Option, Ok, Err, Result, sym, refl, ap, ◌∙◌, subst, inl, inr, arith}
 use Rattle.std.specs.Option.{ok_or}
 use Rattle.std.proofs.lemmas.List.{take_at}
-use Rattle.refusal.specs.declared.Refusal.TheVariants.{Limit, Short}
+use Rattle.refusal.specs.declared.Refusal.{Refusal}
+use Rattle.text.specs.Written.{SizeWithin}
 use Rattle.text.specs.Page.{put}
 use Rattle.text.specs.Page.{Wrote as WroteBytes}
 use Rattle.sheet.specs.declared.contents.Contents.{Contents}
 use Rattle.sheet.specs.declared.fault.SheetFault.{SheetFault}
-use Rattle.sheet.specs.declared.fault.SheetFault.TheVariants.{Refused}
 use Rattle.sheet.specs.Checking.{ContentsChecked, Counts, LinesChecked, SheetChecked}
 use Rattle.sheet.specs.Judge.{Declines, Lists, Sheet, start}
 use Rattle.sheet.specs.Sheets.{Proper, Returns, Room, Within, Wrote, body_bytes, gives, sheet_bytes}
 use Rattle.sheet.proofs.Exactly.{after_contents, back, contents_pass}
-use Rattle.sheet.proofs.Outcomes.{contents_stop, lines_stop, too_large}
+use Rattle.sheet.proofs.Outcomes.{contents_stop, lines_stop}
 
 module _ (ns : Contents) (l : Lists) where
   abbrev s : Sheet
@@ -37,6 +37,15 @@ module _ (ns : Contents) (l : Lists) where
   sheet_at_lines (Err e) w c h = λ small.
       lines_stop (sheet_bytes s) (λ (over : 65536 < length (sheet_bytes s)). omega arith) (start (sheet_bytes s)) refl ns (after_contents l) e (contents_pass s w) h
 
+-- a size that is told
+pub size_told : (bs : List ℕ) (most : ℕ) (o : Option ℕ) (e : Refusal) (n : ℕ) → SizeWithin bs most o → ok_or o e ≡ Ok n → (n ≡ length bs) × (n ≤ most)
+size_told bs most (Some k) e n h is =
+    let same : k ≡ n = cc in
+    let a = h.0 in
+    let b = h.1 in
+    (omega arith, omega arith)
+size_told bs most None e n h is = absurd cc
+
 -- what was written at the start of a page reads back the same
 pub written_returns : (ns : Contents) (l : Lists) (n : ℕ) (page after : List ℕ) → Proper (gives ns l) → n ≡ length (sheet_bytes (gives ns l)) → after ≡ put 0 (sheet_bytes (gives ns l)) page → Returns ns l after (Ok n)
 written_returns ns l n page after p len is m r judged =
@@ -46,9 +55,6 @@ written_returns ns l n page after p len is m r judged =
 
 -- the parts of the writer together: s is the sheet of the lists' first entries
 module _ (ns : Contents) (l : Lists) (s : Sheet) (same : s ≡ gives ns l) (room : Room l) (page : List ℕ) where
-  pub wrote_large : 65536 < length (sheet_bytes s) → Wrote ns l page (Err (Refused Limit 0)) page
-  wrote_large over = (refl, inr (inl (room, too_large (sheet_bytes (gives ns l)) (subst (λ (x : Sheet). 65536 < length (sheet_bytes x)) same over))))
-
   module _ (small : length (sheet_bytes s) ≤ 65536) where
     pub wrote_declined : (e : SheetFault) → SheetChecked s (Err e) → Wrote ns l page (Err e) page
     wrote_declined e h = (refl, inr (inl (room, subst (λ (x : Sheet). Declines (sheet_bytes x) e) same (h small))))
@@ -57,17 +63,9 @@ module _ (ns : Contents) (l : Lists) (s : Sheet) (same : s ≡ gives ns l) (room
       proper : Proper (gives ns l)
       proper = subst Proper same (checked small)
 
-      pub wrote_narrow : length page < length (sheet_bytes s) → Wrote ns l page (Err (Refused Short 0)) page
-      wrote_narrow few = (refl, inr (inr (room, proper, subst (λ (x : Sheet). length page < length (sheet_bytes x)) same few, refl)))
-
-      wrote_all : (n : ℕ) (after : List ℕ) → WroteBytes (sheet_bytes s) 0 page (Some n) after → Wrote ns l page (Ok n) after × Returns ns l after (Ok n)
+      pub wrote_all : (n : ℕ) (after : List ℕ) → WroteBytes (sheet_bytes s) 0 page (Some n) after → Wrote ns l page (Ok n) after × Returns ns l after (Ok n)
       wrote_all n after h =
           let w : WroteBytes (sheet_bytes (gives ns l)) 0 page (Some n) after = subst (λ (x : Sheet). WroteBytes (sheet_bytes x) 0 page (Some n) after) same h in
           let fits = w.0 in
           let n-is = w.1 in
           ((room, proper, omega arith, omega arith, w.2), written_returns ns l n page after proper (omega arith) w.2)
-
-      -- the page has room, so it is written
-      pub wrote_end : (r : Option ℕ) (after : List ℕ) (f : SheetFault) → length (sheet_bytes s) ≤ length page → WroteBytes (sheet_bytes s) 0 page r after → Wrote ns l page (ok_or r f) after × Returns ns l after (ok_or r f)
-      wrote_end (Some n) after f room h = wrote_all n after h
-      wrote_end None after f room h = let over = h.0 in absurd (omega arith)

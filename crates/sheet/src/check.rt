@@ -13,6 +13,8 @@ use refusal::Refusal;
 use site::room::SiteRoom;
 use text::records::{LinkLine, TurnLine};
 
+// No twins of the stages of reading: those take lines out of bytes into a list, these go over a list.
+
 // The contents, as reading them would check them.
 fn check_contents(contents: Contents) -> Result<(), SheetFault>
     ensures { ContentsChecked contents result }
@@ -43,9 +45,7 @@ fn check_links(contents: Contents, links: &[LinkLine], room: SiteRoom) -> Result
     requires count { length links.now ≡ contents.links.value }
     ensures { LinksChecked contents links.now result }
 {
-    let Ok(mut builder) = room.start(contents.nodes.get() as usize, 0) else {
-        unreachable()
-    };
+    let mut builder = contents.begin(room);
     check_body(links, 4, &mut builder)?;
     at_line(builder.finish(), 4 + links.len())?;
     Ok(())

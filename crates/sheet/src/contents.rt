@@ -1,13 +1,17 @@
 //! The numbers that a sheet begins with.
-ghost use Rattle.std.specs.Prelude.{◌≡◌};
+ghost use Rattle.std.specs.Prelude.{◌≡◌, []};
+ghost use Rattle.site.specs.Sites.{draft};
 ghost use Rattle.sheet.specs.Judge.{places};
-ghost use Rattle.sheet.specs.Sheets.{heads};
+ghost use Rattle.sheet.specs.Kinds.{site_of};
+ghost use Rattle.sheet.specs.Sheets.{Within, heads};
 
+use site::builder::SiteBuilder;
+use site::room::SiteRoom;
 use text::contents::{ContentsLine, Word};
 use text::number::Number;
 
 /// The numbers of a sheet's contents.
-#[derive(Clone, Copy)]
+#[derive(Clone, Copy, PartialEq, Eq, Debug)]
 pub struct Contents {
     /// How many nodes the site has.
     pub nodes: Number,
@@ -37,6 +41,18 @@ impl Contents {
             head(Word::Faults, self.faults),
             head(Word::Turns, self.turns),
         ]
+    }
+
+    // `Within` is asked of plain numbers: a second type for checked ones would be taken apart at each use.
+    // A builder of the site in this memory, without links.
+    pub(crate) fn begin(self, room: SiteRoom) -> SiteBuilder
+        requires { Within self }
+        ensures { draft result ≡ site_of self.nodes.value [] }
+    {
+        let Ok(builder) = room.start(self.nodes.get() as usize, 0) else {
+            unreachable()
+        };
+        builder
     }
 
     // How many registers the program's stack of protocols has at the site.

@@ -7,10 +7,11 @@ use refusal::Refusal;
 use text::fault::ScanFault;
 
 /// Why a sheet is declined.
-#[derive(Clone, Copy)]
+#[derive(Clone, Copy, PartialEq, Eq, Debug)]
 pub enum SheetFault {
     /// A line is not in its form or lacking, or bytes follow the last: the scanner's cause, whole.
     Scan(ScanFault),
+    // 0 and no `Option`: 0 is what is printed.
     /// A check's refusal, with the line that it was found at; 0 for the lists' room and the size.
     Refused(Refusal, usize),
 }

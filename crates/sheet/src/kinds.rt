@@ -5,7 +5,7 @@ ghost use Rattle.sheet.specs.Kinds.{contents_rules, fault_rules, least, link_rul
 
 use crate::line::SheetLine;
 use refusal::Refusal;
-use refusal::limits::VALUE;
+use refusal::limits::{FAULTS, LINKS, NAMES, NODES, VALUE};
 use site::builder::SiteBuilder;
 use std::ops::RangeInclusive;
 use text::contents::{ContentsLine, Word};
@@ -31,10 +31,10 @@ fn limits(word: Word) -> RangeInclusive<u32>
     ensures { result ≡ record { start = least word; end = most word; exhausted = false } }
 {
     match word {
-        Word::Nodes => 1..=256,
-        Word::Links => 0..=1024,
-        Word::Faults => 0..=4096,
-        Word::Turns => 0..=1024,
+        Word::Nodes => 1..=NODES as u32,
+        Word::Links => 0..=LINKS as u32,
+        Word::Faults => 0..=FAULTS as u32,
+        Word::Turns => 0..=NAMES as u32,
     }
 }
 

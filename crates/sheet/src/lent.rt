@@ -17,6 +17,7 @@ pub struct Lists<'a> {
     pub turns: &'a mut [TurnLine],
 }
 
+// Three lists, so that it serves lent ones and those of a draft.
 // Whether lists have their limits' entries.
 pub(crate) fn have_room(links: &[LinkLine], faults: &[FaultLine], turns: &[TurnLine]) -> bool
     ensures { Decides result (Room (lists links.now faults.now turns.now)) }

@@ -21,6 +21,7 @@ pub fn clear<R: ReadLine>(list: &mut [R], from: usize)
     ensures zeros { Zeros R.ReadLine.zero from list.new }
 {
     let from = from.min(list.len());
+    // No `fill`: it asks for a clone that cannot fail, which not every kind of line promises.
     for entry in &mut list[from..] {
         *entry = R::blank();
     }
@@ -70,6 +71,7 @@ pub fn read_sheet(
     if !have_room(links, faults, turns) {
         return Err(SheetFault::from(Refusal::Short));
     }
+    // Lent anew, so that the lists are at hand afterwards.
     let lent = Lists {
         links: &mut *links,
         faults: &mut *faults,

@@ -47,6 +47,7 @@ fn named(turns: &[TurnLine], v: u32) -> bool
     turns.iter().any(|turn| turn.node.get() == v)
 }
 
+// As a daemon searches names, but over turn lines; what both tell is one lemma.
 // Whether some node is in none of the turn lines.
 fn lacks(turns: &[TurnLine], nodes: u32) -> bool
     ensures { result ≡ list_any (λ v. not (list_any (λ t. nat_eq t.node.value v) turns.now)) (range_with_len 0 nodes) }
@@ -92,9 +93,7 @@ pub(crate) fn read_links(
     ensures read { link_lines contents (spot rd.old) (out (take contents.links.value links.new) rd.new result) }
     ensures site { IfOk result (λ s. model s ≡ site_of contents.nodes.value (take contents.links.value links.new)) }
 {
-    let Ok(mut builder) = room.start(contents.nodes.get() as usize, 0) else {
-        unreachable()
-    };
+    let mut builder = contents.begin(room);
     let count = contents.links.get() as usize;
     read_body(rd, count, links, &mut builder)?;
     at_line(builder.finish(), rd.lines())

@@ -20,12 +20,13 @@ pub fn write_sheet(draft: Draft, room: SiteRoom, page: &mut [u8]) -> Result<usiz
         return Err(SheetFault::from(Refusal::Short));
     }
     let sheet = draft.counted();
-    let Some(size) = sheet.size() else {
-        return Err(SheetFault::from(Refusal::Limit));
-    };
+    let size = sheet.size().ok_or(Refusal::Limit)?;
     sheet.check(room)?;
     if size > page.len() {
         return Err(SheetFault::from(Refusal::Short));
     }
-    sheet.put(page).ok_or(SheetFault::from(Refusal::Short))
+    let Some(end) = sheet.put(page) else {
+        unreachable()
+    };
+    Ok(end)
 }

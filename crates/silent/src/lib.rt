@@ -12,6 +12,7 @@ use protocol::Output;
 use refusal::Refusal;
 use site::site::Site;
 
+// (site, v) stay two: two protocols side by side are passed one site, by the rules of the interface.
 /// A silent protocol. Every call is passed the site that it runs on; all but the registers is fixed when a value is made.
 pub trait Silent: Sized {
     // what is fixed when a value is made

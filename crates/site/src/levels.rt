@@ -78,6 +78,7 @@ fn greatest(nodes: &[Node]) -> Option<u16>
     ensures { Tallest nodes.now result }
 {
     let mut top: u16 = 0;
+    // A `for`: `?` ends it at a node that is not reached, and a fold over options would say no more.
     for node in nodes {
         top = top.max(node.distance?);
     }

@@ -1,5 +1,6 @@
 //! A link between two nodes.
 
+// Nodes are numbers: these are their names in sheets and reports.
 /// A link: the two nodes that it joins.
 #[derive(Clone, Copy, PartialEq, Eq, Debug)]
 pub struct Link {

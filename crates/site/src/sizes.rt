@@ -5,6 +5,7 @@ ghost use Rattle.site.specs.Entering.{size_checks};
 use refusal::Refusal;
 use refusal::limits::NODES;
 
+// Two numbers: the public calls take two.
 /// The checks of a number of nodes and a root, in their order.
 pub(crate) fn check_size(nodes: usize, root: usize) -> Result<(), Refusal>
     ensures { Checked (size_checks nodes root) result }

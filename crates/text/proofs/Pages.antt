@@ -53,11 +53,6 @@ put_three at mid b xs ys page one three is fits p q =
     ∙ put_put at (mid + 1) (xs ++ (b ∷ [])) ys page (omega arith) (omega arith)
     ∙ ap (λ (bs : List ℕ). put at bs page) (append_assoc xs (b ∷ []) ys)
 
--- nothing
-pub put_none : (at : ℕ) (bs page : List ℕ) → bs ≡ [] → put at bs page ≡ page
-put_none at bs page e =
-    ap (λ (x : List ℕ). put at x page) e ∙ ap (λ (k : ℕ). take at page ++ drop k page) (omega arith) ∙ take-append-drop at page
-
 -- a part at the start of a page, and at the start of its rest
 pub over_put : (bs page : List ℕ) → put 0 bs page ≡ over bs page
 over_put bs page = ap (λ (k : ℕ). bs ++ drop k page) (zero-add (length bs))

@@ -1,5 +1,5 @@
 -- A line of fields: its length, the bytes that it lacks, and that it tells its fields.
-use Rattle.std.specs.Prelude.{◌≡◌, suc, ◌+◌, ◌-◌, ◌*◌, ◌<◌, ◌≤◌, List, [], ◌∷◌, ◌++◌, length, take, drop, slice_index_or, refl}
+use Rattle.std.specs.Prelude.{◌≡◌, suc, ◌+◌, ◌-◌, ◌*◌, ◌≤◌, List, [], ◌∷◌, ◌++◌, length, take, drop, slice_index_or}
 use Rattle.std.proofs.Common.{sym, ap, ◌∙◌, arith, length-append}
 use Rattle.std.proofs.lemmas.List.{take_all}
 use Rattle.text.specs.declared.number.Number.{Number}
@@ -59,16 +59,6 @@ headed_once v w m n e =
 
 pub contents_once : (v w : Contents-Word) (m n : Number) → line_of (headed (Contents v) m) ≡ line_of (headed (Contents w) n) → (v ≡ w) × (m ≡ n)
 contents_once v w m n e = let h = headed_once (Contents v) (Contents w) m n e in let k = h.0 in (cc, h.1)
-
--- fields by the first and the rest, as a slice's pattern gives them
-pub line_none : (l : List Field) → length l < 1 → line_of l ≡ []
-line_none [] h = refl
-line_none (f ∷ fs) h = absurd (omega arith)
-
-pub line_one : (l : List Field) (x : Field) → 1 ≤ length l → length l < 2 → x ≡ slice_index_or l 0 x → line_of l ≡ field_of x
-line_one [] x some few e = absurd (omega arith)
-line_one (f ∷ []) x some few e = ap field_of (sym e)
-line_one (f ∷ (g ∷ gs)) x some few e = absurd (omega arith)
 
 pub line_more :
     (l : List Field) (x : Field) → 2 ≤ length l → x ≡ slice_index_or l 0 x

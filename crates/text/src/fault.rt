@@ -2,6 +2,7 @@
 ghost use Rattle.std.specs.Prelude.{◌≡◌};
 ghost use Rattle.text.specs.Faults.{line_of_fault};
 
+// Each case with its line: a struct of a kind and a line would say no less, and callers would match twice.
 /// What a reader found, with the line from 1 that it was found in.
 #[derive(Clone, Copy, PartialEq, Eq, Debug)]
 pub enum ScanFault {

@@ -17,7 +17,7 @@ pub trait WriteLine: Sized {
     fn size(&self) -> usize
         ensures { result ≡ length (bytes self.now) };
 
-    // The page and `at` stay two: each function over a struct that holds a `&mut` needs a clause on its name.
+    // A page and a place, and no slice of the page: a caller may name a place past its end, and has an answer.
     /// Writes the line, without its line feed, onto the page from `at` on, and answers the place after it.
     /// Where there is no room, the page stays as it is and the answer is `None`.
     fn write(&self, page: &mut [u8], at: usize) -> Option<usize>
@@ -32,6 +32,7 @@ pub trait WriteLine: Sized {
 pub trait ReadLine: WriteLine + Copy {
     ghost zero: { Self };
 
+    // No `Default`: the value is a law here.
     /// A line to fill lists with before they are read.
     fn blank() -> Self
         ensures { result ≡ zero };

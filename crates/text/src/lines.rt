@@ -27,7 +27,7 @@ fn put_lines<L: WriteLine>(lines: &[L], page: &mut [u8], at: usize) -> Option<us
     requires { at + length (lines_of L.WriteLine.bytes lines.now) ≤ length page.old }
     ensures { Wrote (lines_of L.WriteLine.bytes lines.now) at page.old result page.new }
 {
-    // A `for`: of a closure that writes the page the proof would know nothing.
+    // A `for`: a proof knows nothing of what a closure writes to the page.
     let mut end = at;
     for line in lines {
         let after = line.write(page, end)?;
@@ -37,6 +37,7 @@ fn put_lines<L: WriteLine>(lines: &[L], page: &mut [u8], at: usize) -> Option<us
     Some(end)
 }
 
+// A page and a place, as for one line.
 /// Writes lines onto the page from `at` on, each with its line feed, and answers the place after them.
 /// Where there is no room, the page stays as it is and the answer is `None`.
 pub fn write_lines<L: WriteLine>(lines: &[L], page: &mut [u8], at: usize) -> Option<usize>

@@ -90,6 +90,7 @@ fn scan_rest(start: u32, rest: &[u8]) -> Option<u32>
     Some(n)
 }
 
+// By hand and not by `Display`, which would want memory for the text.
 // Writes a number at the start of a page; how many digits it has.
 #[tactic(auto, using(crate::specs::DigitsLemmas::one_digit, crate::specs::DigitsLemmas::more_digits))]
 pub(crate) fn write_digits(n: u32, page: &mut [u8]) -> usize

@@ -50,6 +50,7 @@ pub struct Tally {
 pub struct RefusedLine {
     /// The refusal's number.
     pub number: Number,
+    // 0 and no `Option`: 0 is what is printed.
     /// The line, from 1, or 0 for the whole file.
     pub line: Number,
 }

@@ -14,6 +14,7 @@ impl<P: Silent> Net<'_, P> {
         ensures rests { Rests P.Silent D.Daemon self.old daemon.old result self.new daemon.new }
     {
         let bound = self.bound();
+        // A `while`: the net counts the rounds, and no count stands here.
         while self.rounds() < bound {
             self.draw(daemon)?;
         }

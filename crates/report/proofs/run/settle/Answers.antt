@@ -6,14 +6,11 @@ use Rattle.daemon.specs.ScriptSound.{free_below}
 use Rattle.text.specs.declared.records.TurnLine.{TurnLine}
 use Rattle.site.proofs.Whole.{proper}
 use Rattle.report.specs.Runs.{Ordered, names_of}
-use Rattle.report.proofs.Daemons.{few_names, none_named, robin_able, robin_ordered, script_able, script_free, script_ordered}
+use Rattle.report.proofs.Daemons.{few_names, none_named, robin_ordered, script_able, script_free, script_ordered}
 use Rattle.report.proofs.run.settle.Goals as goal
 
 some-names : (ts : List TurnLine) → (length ts ≡ 0 → ⊥) → 0 < length (names_of ts)
 some-names ts h = let e = length-map ts (λ (t : TurnLine). t.node.value) in omega arith
-
-pub draw-requires : goal.draw-requires
-draw-requires g c = robin_able g.P.Silent c.args.net.now c.args.nodes c.in-Ok.robin c.in-Ok.ensures c.requires.nodes c.requires.fresh c.requires.low
 
 pub nodes_of-requires-clause-few : goal.nodes_of-requires-clause-few
 nodes_of-requires-clause-few g c =

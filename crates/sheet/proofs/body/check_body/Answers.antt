@@ -1,7 +1,6 @@
-use Rattle.std.proofs.Common.{◌≡◌, ◌+◌, List, [], ◌∷◌, ◌++◌, take, sym, ap, ◌∙◌, subst}
-use Rattle.std.proofs.lemmas.List.{take_all, take_more}
+use Rattle.std.proofs.Common.{◌≡◌, ◌+◌, [], ◌∷◌, ◌++◌, take, sym, ap, ◌∙◌, subst}
+use Rattle.std.proofs.lemmas.List.{take_more}
 use Rattle.std.proofs.lemmas.Result.{err_from_is_err_and}
-use Rattle.sheet.specs.Body.{Good}
 use Rattle.sheet.specs.Entering.{Entered}
 use Rattle.sheet.proofs.Bodies.{body_refused, good_push}
 use Rattle.sheet.proofs.Located.{located_err, located_ok}
@@ -28,12 +27,3 @@ loop-i-preserved g c k h =
     let en = subst (λ r. Entered g.R.SheetLine.Holds (g.R.SheetLine.checks k (take i xs) x) k (take i xs) x r c.enter.new.into) done (c.enter.ensures k (take i xs) q.0) in
     let e : take (i + 1) xs ≡ take i xs ++ (x ∷ []) = take_more xs i x c.loop-i-test.true ∙ ap (λ (y : g.row.R.Denot). take i xs ++ (y ∷ [])) (sym c.index-list-i.is) in
     rw e (en.1, good_push g.R.WriteLine.bytes g.R.SheetLine.checks k [] (take i xs) x q.1 en.0)
-
-pub returns : goal.returns
-returns g c =
-    let xs = c.args.list.now in
-    let all : take c.loop-i.i xs ≡ xs = take_all c.loop-i.i xs c.loop-i-test.false in
-    record {
-      checked = λ k h. subst (λ (l : List g.row.R.Denot). Good g.R.SheetLine.checks k [] l) all (c.loop-i.invariant k h).1;
-      held = λ k h. subst (λ (l : List g.row.R.Denot). g.R.SheetLine.Holds c.loop-i.into k l) all (c.loop-i.invariant k h).0;
-    }

@@ -5,7 +5,7 @@ use Rattle.text.specs.Lines.{link_bytes}
 use Rattle.text.specs.Spots.{spot}
 use Rattle.sheet.specs.Kinds.{link_rules, site_of}
 use Rattle.sheet.proofs.Bodies.{body_passed, body_stopped}
-use Rattle.sheet.proofs.Linking.{links_end, unlinked}
+use Rattle.sheet.proofs.Linking.{links_end}
 use Rattle.sheet.proofs.Stops.{links_stop}
 use Rattle.sheet.proofs.stages.read_links.Goals as goal
 
@@ -17,7 +17,7 @@ returns-in_err-read_body c =
     let kept = c.read_body.auto.list in
     let few = c.requires.few in
     let e = c.in_err-read_body.field-0.0 in
-    let h = c.in_err-read_body.ensures.read (omega arith) ns.nodes.value (unlinked ns c.get.result (draft c.in-Ok.builder) c.in-Ok.ensures.1 c.get.ensures) in
+    let h = c.in_err-read_body.ensures.read (omega arith) ns.nodes.value c.begin-builder.ensures in
     rw (p.1, p.2) (record {
       read = links_stop ns (spot c.args.rd.now) e (body_stopped link_bytes link_rules ns.nodes.value c.get-count.result ns.links.value (spot c.args.rd.now) (spot c.read_body.new.rd) _ c.read_body.new.list (λ xs. draft c.read_body.new.into ≡ site_of ns.nodes.value xs) e n (omega arith) h);
       site = tt;
@@ -31,8 +31,8 @@ returns c =
     let list = c.read_body.new.list in
     let p = spot c.args.rd.now in
     let q = spot c.read_body.new.rd in
-    let body = body_passed link_bytes link_rules ns.nodes.value c.get-count.result ns.links.value p q _ list (λ xs. draft c.read_body.new.into ≡ site_of ns.nodes.value xs) n (c.in_ok-read_body.ensures.read (omega arith) ns.nodes.value (unlinked ns c.get.result (draft c.in-Ok.builder) c.in-Ok.ensures.1 c.get.ensures)) in
+    let body = body_passed link_bytes link_rules ns.nodes.value c.get-count.result ns.links.value p q _ list (λ xs. draft c.read_body.new.into ≡ site_of ns.nodes.value xs) n (c.in_ok-read_body.ensures.read (omega arith) ns.nodes.value c.begin-builder.ensures) in
     let held : draft c.read_body.new.into ≡ site_of ns.nodes.value (take ns.links.value list) =
-    (c.in_ok-read_body.ensures.read (omega arith) ns.nodes.value (unlinked ns c.get.result (draft c.in-Ok.builder) c.in-Ok.ensures.1 c.get.ensures)).2 ∙ ap (λ (k : ℕ). site_of ns.nodes.value (take k list)) n in
+    (c.in_ok-read_body.ensures.read (omega arith) ns.nodes.value c.begin-builder.ensures).2 ∙ ap (λ (k : ℕ). site_of ns.nodes.value (take k list)) n in
     let r = links_end ns p c.read_body.new.rd (take ns.links.value list) (draft c.read_body.new.into) c.finish.result c.lines.result held body c.lines.ensures c.finish.ensures in
     rw c.at_line.ensures (record { read = r.0; site = r.1 })
