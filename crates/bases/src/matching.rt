@@ -100,6 +100,7 @@ impl Silent for Matching {
     ghost laws = { λ _ m p. matching_laws m p };
 
     fn turn(&mut self, site: &Site, v: usize) -> Result<bool, Refusal> {
+        // Each call declines by itself, as in `Tree`.
         if v >= site.nodes() {
             return Err(Refusal::Node);
         }

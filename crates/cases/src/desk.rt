@@ -74,6 +74,7 @@ pub fn contents(numbers: [u32; 4]) -> Contents {
     }
 }
 
+// By hand: the tests do not lean on `cause` and `line`.
 /// The numbers of a fault.
 impl From<SheetFault> for Refused {
     fn from(fault: SheetFault) -> Refused {

@@ -48,6 +48,7 @@ impl<L: Silent, R: Silent> Silent for Beside<L, R> {
     }
 
     fn write(&mut self, site: &Site, place: u64, value: u16) -> Result<(), Refusal> {
+        // Each call declines by itself, as in `Over`.
         if place >= self.size(site) {
             return Err(Refusal::Place);
         }

@@ -64,6 +64,7 @@ impl<P: Silent, L: Layer> Silent for Over<P, L> {
     }
 
     // The steps of Beside over a block, which declines nothing: as a protocol it would need refusals and laws of its own.
+    // Each call declines by itself: a call for one comparison would say no more.
     fn write(&mut self, site: &Site, place: u64, value: u16) -> Result<(), Refusal> {
         if place >= self.size(site) {
             return Err(Refusal::Place);

@@ -23,6 +23,7 @@ fn put_line(line: ReportLine, page: &mut [u8]) -> Result<usize, Refusal>
     write_lines(&[line], page, 0).ok_or(Refusal::Short)
 }
 
+// The limit is a clause, here and below: a `Number` is what these make.
 // A number that is known to have at most five digits.
 fn small(value: u32) -> Number
     requires { value < 100000 }

@@ -1,5 +1,5 @@
 //! Memory for an answer, had before it is wanted.
-ghost use Rattle.std.specs.Prelude.{◌≡◌, IfOk, vec_len};
+ghost use Rattle.std.specs.Prelude.{◌≤◌, IfOk, vec_capacity};
 ghost use Rattle.report.specs.Stacks.{Blank};
 
 use bases::matching::Matching;
@@ -31,10 +31,9 @@ pub fn stack(heap: Global) -> Result<Stack, AllocError>
 pub struct Room {
     pub(crate) site: SiteRoom,
     pub(crate) stack: Stack,
-    // Full, though they are cleared before use: their number is what is known of the memory.
     pub(crate) names: Vec<u16>,
     ghost blank: { Blank stack },
-    ghost many: { vec_len names ≡ 1024 },
+    ghost many: { 1024 ≤ vec_capacity names },
 }
 
 impl Room {
@@ -44,7 +43,7 @@ impl Room {
     {
         let site = SiteRoom::new(heap)?;
         let stack = stack(heap)?;
-        let names = vec![in heap; 0u16; NAMES]?;
+        let names = Vec::with_capacity(heap, NAMES)?;
         Ok(Room { site, stack, names })
     }
 }

@@ -1,5 +1,5 @@
 //! Runs of a net that a sheet asks for.
-ghost use Rattle.std.specs.Prelude.{◌≡◌, ◌≤◌, length, vec_len};
+ghost use Rattle.std.specs.Prelude.{◌≡◌, ◌≤◌, length, vec_capacity};
 ghost use Rattle.std.specs.List.{AllByRecursion};
 ghost use Rattle.protocol.specs.Protocols.{told_bound, told_size};
 ghost use Rattle.promise.specs.Nets.{Fresh};
@@ -28,7 +28,7 @@ pub(crate) fn enter<P: Silent>(net: &mut Net<P>, faults: &[FaultLine])
 
 // The nodes of turn lines, in memory that has room for them.
 fn nodes_of(turns: &[TurnLine], mut names: Vec<u16>) -> Vec<u16>
-    requires room { length turns.now ≤ vec_len names }
+    requires room { length turns.now ≤ vec_capacity names }
     requires few { AllByRecursion (λ t. t.node.value ≤ 65535) turns.now }
     ensures { result.items ≡ names_of turns.now }
 {
@@ -55,7 +55,7 @@ pub(crate) fn settle<P: Silent>(net: &mut Net<P>, nodes: usize, turns: &[TurnLin
     requires fresh { Fresh (at net.old).nodes (state P.Silent net.old) }
     requires low { told_bound (meant P.Silent net.old) ≤ 768 }
     requires script { Scripted nodes (names_of turns.now) }
-    requires room { length turns.now ≤ vec_len names }
+    requires room { length turns.now ≤ vec_capacity names }
     ensures { Rested P.Silent net.old (names_of turns.now) net.new }
 {
     if turns.is_empty() {

@@ -11,6 +11,7 @@ use std::ops::RangeInclusive;
 use text::contents::{ContentsLine, Word};
 use text::records::{FaultLine, LinkLine, TurnLine};
 
+// A struct: it moves on from line to line, and the other contexts stay. `new` and not `Default`: its contract says 0.
 /// How many contents lines came before.
 #[derive(Clone, Copy)]
 pub struct Progress {

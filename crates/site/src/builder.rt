@@ -42,6 +42,7 @@ impl SiteBuilder {
         Ok(SiteBuilder::bare(heap, nodes, root)?)
     }
 
+    // Two numbers here and in `narrowed`: the public calls take two.
     /// A site of so many nodes with this root and no links yet; want of memory is the only error.
     pub(crate) fn bare(heap: Global, nodes: usize, root: usize) -> Result<SiteBuilder, AllocError>
         requires sized { (1 ≤ nodes) × (nodes ≤ 256) }

@@ -10,6 +10,7 @@ use refusal::limits::NODES;
 pub(crate) fn check_size(nodes: usize, root: usize) -> Result<(), Refusal>
     ensures { Checked (size_checks nodes root) result }
 {
+    // In daemons too: the range of a constant says as much as a call for it.
     if !(1..=NODES).contains(&nodes) {
         return Err(Refusal::Limit);
     }

@@ -31,6 +31,7 @@ impl Number {
         }
     }
 
+    // By these names and not `Default`, `From`: their contracts say the value, and lines are proved from them.
     /// The number 0.
     pub fn zero() -> Number
         ensures { result ≡ zero_number }
@@ -90,7 +91,7 @@ fn scan_rest(start: u32, rest: &[u8]) -> Option<u32>
     Some(n)
 }
 
-// By hand and not by `Display`, which would want memory for the text.
+// By hand and not by `Display`, which would want memory for the text. The limit is a clause: each step has another number.
 // Writes a number at the start of a page; how many digits it has.
 #[tactic(auto, using(crate::specs::DigitsLemmas::one_digit, crate::specs::DigitsLemmas::more_digits))]
 pub(crate) fn write_digits(n: u32, page: &mut [u8]) -> usize
@@ -108,6 +109,7 @@ pub(crate) fn write_digits(n: u32, page: &mut [u8]) -> usize
     size + 1
 }
 
+// By the steps of writing: there is no text to take the length of.
 // How many digits a number has.
 #[tactic(auto, using(crate::specs::DigitsLemmas::one_digit, crate::specs::DigitsLemmas::more_digits, crate::specs::DigitsLemmas::few_digits))]
 pub(crate) fn count_digits(n: u32) -> usize

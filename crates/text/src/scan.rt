@@ -29,8 +29,8 @@ impl From<u8> for Sign {
     }
 }
 
-// The end of the text is a place where a line or a field ends, so there is no `Option` here. Twice, by two closures: one
-// function over the sign would need a number for each sign in its contract.
+// The end of the text is a place where a line or a field ends, so there is no `Option` here. Twice, by two closures: what a
+// byte is is said by `Sign` alone, as a rule, and a function over a sign would name it by a number in its contract.
 /// Where a line ends: the index of the first line feed, or the length.
 pub fn line_end(s: &[u8]) -> usize
     ensures { First 10 s.now result }
