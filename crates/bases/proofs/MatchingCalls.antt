@@ -48,4 +48,4 @@ pub matching_turned :
 matching_turned m p a b v x r l e w h =
     let n = m.nodes in
     let f : ℕ → ℕ = λ u. get_or (front n a) u 0 in
-    (l, front_set n a b v x w l ∙ ap (set (front n a) v) (e ∙ sym (register_same m p f (register a) (front_read n a) v l)), front_changed n a b v x w r l h)
+    (l, front_set n a b v x w ∙ ap (set (front n a) v) (e ∙ sym (register_same m p f (register a) (front_read n a) v l)), front_changed n a b v x w r l h)

@@ -62,7 +62,7 @@ tree_turned m p a b c d v x y r s l e h w j u k =
     let g : ℕ → ℕ = register a in
     let same : (i : ℕ) → i < n → f i ≡ g i = λ i q. get_or_append_left xs ys 0 i (omega arith) ∙ front_read n a i q in (
       l,
-      ap₂ ◌++◌ (front_set n a c v x w l) (front_set n b d v y u l)
+      ap₂ ◌++◌ (front_set n a c v x w) (front_set n b d v y u)
           ∙ sym (sets_apart xs ys n v x y size l)
           ∙ ap₂ (λ (z q : ℕ). set (set (xs ++ ys) v z) (n + v) q) (e ∙ sym (distance_same m p f g same v)) (h ∙ ap stored (sym (parent_same m p f g same v))),
       either_changed n xs ys (front n c) (front n d) r s size (front_registers n c few).0 (front_changed n a c v x w r l j) (front_changed n b d v y u s l k),
@@ -85,10 +85,10 @@ module _ {room : ℕ} (n : ℕ) (few : n ≤ room) (a b : Block room) where
   pub first_set : (c : Block room) (i x : ℕ) → held c ≡ slice_set (held a) i x → i < n → front n c ++ front n b ≡ slice_set both i x
   first_set c i x w l =
       let e = size_is in
-      ap (λ (zs : List ℕ). zs ++ front n b) (front_set n a c i x w l) ∙ sym (set-append_left (front n a) (front n b) i x (omega arith))
+      ap (λ (zs : List ℕ). zs ++ front n b) (front_set n a c i x w) ∙ sym (set-append_left (front n a) (front n b) i x (omega arith))
 
-  pub second_set : (c : Block room) (i j x : ℕ) → held c ≡ slice_set (held b) j x → i ≡ n + j → j < n → front n a ++ front n c ≡ slice_set both i x
-  second_set c i j x w e l =
+  pub second_set : (c : Block room) (i j x : ℕ) → held c ≡ slice_set (held b) j x → i ≡ n + j → front n a ++ front n c ≡ slice_set both i x
+  second_set c i j x w e =
       let k : j ≡ i - n = omega arith in
-      ap (λ (zs : List ℕ). front n a ++ zs) (front_set n b c j x w l ∙ ap (λ (q : ℕ). set (front n b) q x) k)
+      ap (λ (zs : List ℕ). front n a ++ zs) (front_set n b c j x w ∙ ap (λ (q : ℕ). set (front n b) q x) k)
       ∙ sym (set-append_right (front n a) (front n b) n i x size_is (omega arith))

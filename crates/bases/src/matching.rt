@@ -12,7 +12,7 @@ ghost use Rattle.registers.specs.Blocks.{register};
 ghost use Rattle.bases.specs.Registers.{matching_registers, matching_sized};
 ghost use Rattle.protocol.proofs.MatchingLaws.{matching_laws};
 
-use crate::ports::{first_with, held_node, node_in, value_of};
+use crate::ports::{first_with, has, held_node, node_in, value_of};
 use protocol::Output;
 use refusal::Refusal;
 use refusal::limits::NODES;
@@ -64,7 +64,7 @@ impl Matching {
     fn stands(&self, site: &Site, v: usize, u: u16) -> bool
         ensures { (if result then suc u else 0) ≡ by_rules (model site.now) (register self.now.names) v (suc u) }
     {
-        site.ports(v).contains(&u) && (self.name(u as usize).is_none() || self.names_node(u, v))
+        has(site.ports(v), u) && (self.name(u as usize).is_none() || self.names_node(u, v))
     }
 
     // what a node names by the first rule that fits

@@ -1,5 +1,6 @@
 //! Nodes as registers hold them, and what nodes look for at their ports.
 ghost use Rattle.std.specs.Prelude.{◌≡◌, ◌<◌, nat_eq};
+ghost use Rattle.std.specs.List.{list_any};
 ghost use Rattle.protocol.specs.First.{first, held, least as least_of};
 ghost use Rattle.protocol.specs.Outputs.{stored};
 ghost use Rattle.registers.specs.Blocks.{register};
@@ -22,11 +23,19 @@ pub fn value_of(node: Option<u16>) -> u16
     node.map_or(0, |u| u + 1)
 }
 
+// Not `contains`: it is a call for each node of a turn, where `any` stands in line.
+/// Whether a node stands in the list.
+pub fn has(nodes: &[u16], u: u16) -> bool
+    ensures { result ≡ list_any (λ w. nat_eq w u) nodes.now }
+{
+    nodes.iter().any(|w| *w == u)
+}
+
 /// The node of the list that a register of this value holds, if any.
 pub fn held_node(nodes: &[u16], value: u16) -> Option<u16>
     ensures { result ≡ held nodes.now value }
 {
-    node_in(value).filter(|u| nodes.contains(u))
+    node_in(value).filter(|u| has(nodes, *u))
 }
 
 // 0 for no nodes, as `least_of` says.

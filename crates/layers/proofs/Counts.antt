@@ -41,4 +41,4 @@ pub count_ruled :
 count_ruled m ok t v x r a b e w h l =
     let n = m.nodes in
     let sums = sum_cong (register a) (λ c. get_or (front n a) c 0) (children m t v) (λ c q. sym (front_read n a c (inside m ok.drawn c v (among_children t v c (ports m v) q).0).1)) in
-    (front_set n a b v x w l ∙ ap (set (front n a) v) (e ∙ ap (λ (k : ℕ). min n (1 + k)) sums) ∙ sym (count_rule m t v (front n a)), front_changed n a b v x w r l h)
+    (front_set n a b v x w ∙ ap (set (front n a) v) (e ∙ ap (λ (k : ℕ). min n (1 + k)) sums) ∙ sym (count_rule m t v (front n a)), front_changed n a b v x w r l h)

@@ -35,7 +35,7 @@ rank_ruled m t v r x y z p q e w h f k l =
     let rest : drop size (held z) ≡ drop size (held x) = ap (drop size) f ∙ drop_put size new (held y) first fits ∙ ap (drop size) w ∙ drop-set-lt size (held x) v r low in (
       ap (take size) f
           ∙ take_put size new (held y) first fits
-          ∙ ap (λ (us : List ℕ). put us first new) (front_set size x y v r w low)
+          ∙ ap (λ (us : List ℕ). put us first new) (front_set size x y v r w)
           ∙ ap (λ (n : ℕ). put (set (front size x) v n) first (slots m.nodes t v (n + 1) (ports m v))) e,
       take_changed size (held x) (held z) (p || q) rest (later_changed (held x) (held y) (held z) new v r first p q (omega arith) w f h k),
     )

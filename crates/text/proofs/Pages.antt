@@ -1,5 +1,5 @@
 -- Bytes put onto a page one after the other.
-use Rattle.std.proofs.Common.{◌≡◌, ℕ, ◌+◌, ◌-◌, ◌<◌, ◌≤◌, List, [], ◌∷◌, ◌++◌, length, take, drop, set, Some, None, Option, sym, ap, ◌∙◌, append-nil, append_assoc, add_assoc, zero-add, add-one, arith, length-append, length-drop, take-append-drop}
+use Rattle.std.proofs.Common.{◌≡◌, ℕ, ◌+◌, ◌-◌, ◌<◌, ◌≤◌, true, List, [], ◌∷◌, ◌++◌, length, take, drop, set, is_some, Some, None, Option, sym, refl, ap, ◌∙◌, append-nil, append_assoc, add_assoc, zero-add, add-one, arith, length-append, length-drop, take-append-drop}
 use Rattle.std.proofs.lemmas.List.{take_at, take_rest, drop_at, drop_all, drop-drop, length-take-le, set_split}
 use Rattle.text.specs.Page.{Wrote, over, put}
 
@@ -52,6 +52,16 @@ put_three at mid b xs ys page one three is fits p q =
     q ∙ ap (λ (r : List ℕ). put (mid + 1) ys r) (put_end at mid b xs page one is (omega arith) p)
     ∙ put_put at (mid + 1) (xs ++ (b ∷ [])) ys page (omega arith) (omega arith)
     ∙ ap (λ (bs : List ℕ). put at bs page) (append_assoc xs (b ∷ []) ys)
+
+-- nothing
+pub put_none : (at : ℕ) (bs page : List ℕ) → bs ≡ [] → put at bs page ≡ page
+put_none at bs page e =
+    ap (λ (x : List ℕ). put at x page) e ∙ ap (λ (k : ℕ). take at page ++ drop k page) (omega arith) ∙ take-append-drop at page
+
+-- where there is room, bytes are written
+pub wrote_fits : (bs : List ℕ) (at : ℕ) (page : List ℕ) (r : Option ℕ) (after : List ℕ) → at + length bs ≤ length page → Wrote bs at page r after → is_some r ≡ true
+wrote_fits bs at page (Some end) after fits w = refl
+wrote_fits bs at page None after fits w = let over = w.0 in absurd (omega arith)
 
 -- a part at the start of a page, and at the start of its rest
 pub over_put : (bs page : List ℕ) → put 0 bs page ≡ over bs page

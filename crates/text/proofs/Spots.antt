@@ -13,6 +13,14 @@ module _ {X : Type 0} (bytes : X → List ℕ) (plain : (x : X) → Lacks 10 (by
   not_form p l more cut none not =
       (refl, (λ lacks. no_cut 10 p.rest l more lacks cut), λ x m e. not x (cut_once 10 l (bytes x) more m none (plain x) (sym cut ∙ e)).0)
 
+  -- one line is read, in one way
+  pub takes_once :
+      ((x y : X) → bytes x ≡ bytes y → x ≡ y) → (p : Spot) (x y : X) (q r : Spot) → Takes bytes p x q → Takes bytes p y r → (x ≡ y) × (q ≡ r)
+  takes_once once p x y q r t u =
+      let h = cut_once 10 (bytes x) (bytes y) q.rest r.rest (plain x) (plain y) (sym t.0 ∙ u.0) in
+      let l : q.line ≡ r.line = t.1 ∙ sym u.1 in
+      (once x y h.0, λ i. record { rest = h.1 i; line = l i })
+
 pub takes_not_why : {X : Type 0} (bytes : X → List ℕ) (p : Spot) (x : X) (q : Spot) (e : ScanFault) → Takes bytes p x q → Why bytes p e → ⊥
 takes_not_why bytes p x q (Form l) t w = w.2 x q.rest t.0
 takes_not_why bytes p x q (Lacking l) t w = no_cut 10 p.rest (bytes x) q.rest w.1 t.0

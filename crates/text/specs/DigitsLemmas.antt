@@ -33,6 +33,18 @@ one_digit n lt = ap length (decimal_digit n lt)
 pub more_digits : (n : ℕ) → 10 ≤ n → n < 100000 → length (decimal n) ≡ length (decimal (n / 10)) + 1
 more_digits n le lt = ap length (decimal_step n le (omega arith)) ∙ length_push (decimal (n / 10)) (48 + n % 10)
 
+pub two_digits : (n : ℕ) → 10 ≤ n → n < 100 → length (decimal n) ≡ 2
+two_digits n le lt = let m = more_digits n le (omega arith) in let k = one_digit (n / 10) (omega arith) in omega arith
+
+pub three_digits : (n : ℕ) → 100 ≤ n → n < 1000 → length (decimal n) ≡ 3
+three_digits n le lt = let m = more_digits n (omega arith) (omega arith) in let k = two_digits (n / 10) (omega arith) (omega arith) in omega arith
+
+pub four_digits : (n : ℕ) → 1000 ≤ n → n < 10000 → length (decimal n) ≡ 4
+four_digits n le lt = let m = more_digits n (omega arith) (omega arith) in let k = three_digits (n / 10) (omega arith) (omega arith) in omega arith
+
+pub five_digits : (n : ℕ) → 10000 ≤ n → n < 100000 → length (decimal n) ≡ 5
+five_digits n le lt = let m = more_digits n (omega arith) lt in let k = four_digits (n / 10) (omega arith) (omega arith) in omega arith
+
 pub few_digits : (n : ℕ) → n < 100000 → length (decimal n) ≤ 5
 few_digits n lt = length-decimal-le 5 n (omega arith) (omega arith) (omega arith)
 

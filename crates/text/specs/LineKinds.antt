@@ -6,12 +6,15 @@ use Rattle.text.specs.declared.field.Keyword.TheVariants.{Contents}
 use Rattle.text.specs.declared.field.Keyword.TheVariants as word
 use Rattle.text.specs.declared.report.ReportLine.{ReportLine}
 use Rattle.text.specs.declared.report.ReportLine.TheVariants as report
+use Rattle.text.specs.declared.report.Tally.{Tally}
+use Rattle.text.specs.declared.report.NodeLine.{NodeLine}
+use Rattle.text.specs.declared.report.RefusedLine.{RefusedLine}
 use Rattle.text.specs.declared.records.LinkLine.{LinkLine}
 use Rattle.text.specs.declared.records.FaultLine.{FaultLine}
 use Rattle.text.specs.declared.records.TurnLine.{TurnLine}
 use Rattle.text.specs.declared.contents.ContentsLine.{ContentsLine}
 use Rattle.text.specs.Fields.{pair, headed}
-use Rattle.text.specs.Lines.{link_bytes, fault_bytes, turn_bytes, contents_bytes, report_bytes, node_fields}
+use Rattle.text.specs.Lines.{link_bytes, fault_bytes, turn_bytes, contents_bytes, tally_bytes, node_bytes, refused_bytes, report_bytes, node_fields}
 use Rattle.text.specs.Page.{Lacks}
 use Rattle.text.specs.FieldsLemmas.{five_short, line_plain, pair_once, contents_once}
 use Rattle.text.specs.Numbers.{written_once}
@@ -28,15 +31,45 @@ turn_plain x = line_plain (Value x.node ∷ [])
 pub contents_plain : (x : ContentsLine) → Lacks 10 (contents_bytes x)
 contents_plain x = line_plain (headed (Contents x.word) x.number)
 
+pub tally_plain : (x : Tally) → Lacks 10 (tally_bytes x)
+tally_plain x = line_plain (headed (word.Tally x.word) x.number)
+
+pub node_plain : (x : NodeLine) → Lacks 10 (node_bytes x)
+node_plain x = line_plain (node_fields x)
+
+pub refused_plain : (x : RefusedLine) → Lacks 10 (refused_bytes x)
+refused_plain x = line_plain (Word word.Refused ∷ pair x.number x.line)
+
 pub report_plain : (x : ReportLine) → Lacks 10 (report_bytes x)
-report_plain (report.Tally x) = line_plain (headed (word.Tally x.word) x.number)
-report_plain (report.Node x) = line_plain (node_fields x)
-report_plain (report.Refused x) = line_plain (Word word.Refused ∷ pair x.number x.line)
+report_plain (report.Tally x) = tally_plain x
+report_plain (report.Node x) = node_plain x
+report_plain (report.Refused x) = refused_plain x
+
+pub link_short : (x : LinkLine) → length (link_bytes x) ≤ 63
+link_short x = five_short (pair x.a x.b) (lit≤ tt)
+
+pub fault_short : (x : FaultLine) → length (fault_bytes x) ≤ 63
+fault_short x = five_short (pair x.register x.value) (lit≤ tt)
+
+pub turn_short : (x : TurnLine) → length (turn_bytes x) ≤ 63
+turn_short x = five_short (Value x.node ∷ []) (lit≤ tt)
+
+pub contents_short : (x : ContentsLine) → length (contents_bytes x) ≤ 63
+contents_short x = five_short (headed (Contents x.word) x.number) (lit≤ tt)
+
+pub tally_short : (x : Tally) → length (tally_bytes x) ≤ 63
+tally_short x = five_short (headed (word.Tally x.word) x.number) (lit≤ tt)
+
+pub node_short : (x : NodeLine) → length (node_bytes x) ≤ 63
+node_short x = five_short (node_fields x) (lit≤ tt)
+
+pub refused_short : (x : RefusedLine) → length (refused_bytes x) ≤ 63
+refused_short x = five_short (Word word.Refused ∷ pair x.number x.line) (lit≤ tt)
 
 pub report_short : (x : ReportLine) → length (report_bytes x) ≤ 63
-report_short (report.Tally x) = five_short (headed (word.Tally x.word) x.number) (lit≤ tt)
-report_short (report.Node x) = five_short (node_fields x) (lit≤ tt)
-report_short (report.Refused x) = five_short (Word word.Refused ∷ pair x.number x.line) (lit≤ tt)
+report_short (report.Tally x) = tally_short x
+report_short (report.Node x) = node_short x
+report_short (report.Refused x) = refused_short x
 
 pub same_link : (x y : LinkLine) → link_bytes x ≡ link_bytes y → x ≡ y
 same_link x y e = let h = pair_once x.a x.b y.a y.b e in λ i. record { a = h.0 i; b = h.1 i }

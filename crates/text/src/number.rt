@@ -109,12 +109,11 @@ pub(crate) fn write_digits(n: u32, page: &mut [u8]) -> usize
     size + 1
 }
 
-// By the steps of writing: there is no text to take the length of.
+// By comparisons, since a line is sized more than once before it is written: there is no text to take the length of.
 // How many digits a number has.
-#[tactic(auto, using(crate::specs::DigitsLemmas::one_digit, crate::specs::DigitsLemmas::more_digits, crate::specs::DigitsLemmas::few_digits))]
 pub(crate) fn count_digits(n: u32) -> usize
     requires { n < 100000 }
     ensures { result ≡ length (decimal n) }
 {
-    if n < 10 { 1 } else { count_digits(n / 10) + 1 }
+    1 + (n >= 10) as usize + (n >= 100) as usize + (n >= 1000) as usize + (n >= 10000) as usize
 }

@@ -1,4 +1,4 @@
-use Rattle.std.proofs.Common.{◌<◌, arith}
+use Rattle.std.proofs.Common.{arith}
 use Rattle.site.specs.Sites.{model}
 use Rattle.registers.specs.Fronts.{front_set}
 use Rattle.bases.proofs.Sites.{site_few}
@@ -10,5 +10,4 @@ returns-clause-written c =
     let few = site_few c.args.site.now in
     let e = c.nodes.ensures in
     let q = c.if-place-nodes.false in
-    let l : c.args.place < m.nodes = omega arith in
-    (omega arith, front_set m.nodes c.args.self.now.names c.put.new.self c.args.place c.args.value c.put.ensures.after l)
+    (omega arith, front_set m.nodes c.args.self.now.names c.put.new.self c.args.place c.args.value c.put.ensures.after)

@@ -25,4 +25,4 @@ returns-then-place-n-2-clause-written c =
     let r = c.if-place-n-2.true in
     let k : c.args.place ≡ m.nodes + j = omega arith in
     let put = c.put-then-place-n-2 in
-    (omega arith, second_set m.nodes few t.distances t.parents put.new.self c.args.place j c.args.value put.ensures.after k (omega arith))
+    (omega arith, second_set m.nodes few t.distances t.parents put.new.self c.args.place j c.args.value put.ensures.after k)

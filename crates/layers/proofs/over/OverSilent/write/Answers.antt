@@ -5,7 +5,7 @@ use Rattle.protocol.specs.Layers.{layered}
 use Rattle.registers.specs.Blocks.{front}
 use Rattle.registers.specs.Fronts.{front_set}
 use Rattle.layers.specs.Below.{means}
-use Rattle.layers.proofs.Places.{low_written, high_low, high_set}
+use Rattle.layers.proofs.Places.{low_written, high_set}
 use Rattle.layers.proofs.over.OverSilent.write.Goals as goal
 
 pub returns-in-None-clause-written : goal.returns-in-None-clause-written
@@ -32,6 +32,5 @@ returns-in-Some-clause-written g c =
     let j = c.in-Some.i in
     let x = c.args.value in
     let past = c.in-Some.ensures in
-    let low = high_low p w n refl b o sized c.size-2.result c.size-2.ensures c.args.place j c.size.result c.size.ensures c.if-place-size.false past in
     high_set p w n refl b o sized c.size-2.result c.size-2.ensures c.args.place j c.size.result c.size.ensures c.if-place-size.false past
-    x (front n c.put.new.self) (front_set n s.own c.put.new.self j x c.put.ensures.after low)
+    x (front n c.put.new.self) (front_set n s.own c.put.new.self j x c.put.ensures.after)

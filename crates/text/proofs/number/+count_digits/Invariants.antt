@@ -1,4 +1,0 @@
-use Rattle.text.proofs.number.+count_digits.Given as goal
-
-abbrev pub decreases-count_digits : goal.decreases-count_digits
-decreases-count_digits l = l.n
